@@ -1,95 +1,103 @@
-//! Keys of one hash, which stand in one bin however many there are: "Aa" and "BB" have the same
-//! `hashCode` in Java, and so have all texts of n of these.
-use crate::calls::{empty, find, put, remove};
-use bin_transfer::Growing;
+//! Keys of one hash, which stand in one bin however many there are.
+use crate::checks::assert_same;
+use crate::numbers::{Numbers, Texts};
 use java_hash::hash;
 use map_types::Refusal;
 use std::alloc::Global;
 
-const PAIRS: u32 = 9;
-
 const KEYS: u32 = 512;
 
-/// The text of nine pairs that the lowest nine bits of the number choose.
-fn pairs(alloc: Global, number: u32) -> Result<String, Refusal> {
-    let mut text = String::new(alloc);
-    for bit in 0..PAIRS {
-        text.push_str(if (number >> bit) & 1 == 0 { "Aa" } else { "BB" })?;
-    }
-    Ok(text)
-}
-
-fn full(alloc: Global) -> Result<Growing, Refusal> {
-    let mut growing = empty(alloc)?;
+/// How many keys have the hash of the first.
+fn of_one_hash(alloc: Global) -> Result<u32, Refusal> {
+    let first = hash_of(alloc, 0)?;
+    let mut count = 0u32;
     for number in 0..KEYS {
-        put(
-            &mut growing,
-            alloc,
-            pairs(alloc, number)?.as_str(),
-            i64::from(number),
-        )?;
-    }
-    Ok(growing)
-}
-
-/// Whether each key with an even or an odd number is mapped to its number, or none.
-fn are_found(
-    growing: &Growing,
-    alloc: Global,
-    is_odd: bool,
-    is_mapped: bool,
-) -> Result<bool, Refusal> {
-    for half in 0..KEYS / 2 {
-        let number = 2 * half + u32::from(is_odd);
-        let expected = is_mapped.then_some(i64::from(number));
-        if find(growing, alloc, pairs(alloc, number)?.as_str())? != expected {
-            return Ok(false);
+        if hash_of(alloc, number)? == first {
+            count = count.saturating_add(1);
         }
     }
-    Ok(true)
+    Ok(count)
 }
 
-fn remove_odd(growing: &mut Growing, alloc: Global) -> Result<(), Refusal> {
-    for half in 0..KEYS / 2 {
-        remove(growing, alloc, pairs(alloc, 2 * half + 1)?.as_str())?;
-    }
-    Ok(())
+fn hash_of(alloc: Global, number: u32) -> Result<i32, Refusal> {
+    let text = Texts::OneHash.text(alloc, number)?;
+    Ok(hash(text.as_str()))
 }
 
-fn have_one_hash(alloc: Global) -> Result<bool, Refusal> {
-    let first = hash(pairs(alloc, 0)?.as_str());
-    for number in 1..KEYS {
-        if hash(pairs(alloc, number)?.as_str()) != first {
-            return Ok(false);
+/// How many entries a map has, how many of the keys with even numbers, and of those with odd ones, are
+/// mapped to their numbers, and how many keys are not mapped.
+#[derive(Clone, Copy, Debug, PartialEq)]
+struct Found {
+    len: usize,
+    even: u32,
+    odd: u32,
+    absent: u32,
+}
+
+impl Found {
+    /// Counts what is found of the key of this number.
+    fn add(&mut self, number: u32, value: Option<i64>) {
+        if value == Some(i64::from(number)) {
+            if number % 2 == 0 {
+                self.even = self.even.saturating_add(1);
+            } else {
+                self.odd = self.odd.saturating_add(1);
+            }
+        } else if value.is_none() {
+            self.absent = self.absent.saturating_add(1);
         }
     }
-    Ok(true)
 }
 
-/// Whether all keys are found in a full map.
-fn all_are_found(alloc: Global) -> Result<bool, Refusal> {
-    let growing = full(alloc)?;
-    Ok(
-        growing.len() == KEYS as usize
-            && are_found(&growing, alloc, false, true)?
-            && are_found(&growing, alloc, true, true)?,
-    )
+impl Numbers {
+    fn found(&self) -> Result<Found, Refusal> {
+        let mut found = Found {
+            len: self.growing.len(),
+            even: 0,
+            odd: 0,
+            absent: 0,
+        };
+        for number in 0..KEYS {
+            found.add(number, self.find(number)?);
+        }
+        Ok(found)
+    }
+
+    /// Takes out the keys of odd numbers.
+    fn remove_odd(&mut self) -> Result<(), Refusal> {
+        for half in 0..KEYS / 2 {
+            self.remove(2 * half + 1)?;
+        }
+        Ok(())
+    }
+
+    /// What is found of all keys, and then once those of odd numbers were taken out.
+    fn found_twice(&mut self) -> Result<(Found, Found), Refusal> {
+        let all = self.found()?;
+        self.remove_odd()?;
+        Ok((all, self.found()?))
+    }
 }
 
-/// Whether those of the even numbers are left after the others were taken out.
-fn even_are_left(alloc: Global) -> Result<bool, Refusal> {
-    let mut growing = full(alloc)?;
-    remove_odd(&mut growing, alloc)?;
-    Ok(
-        growing.len() == KEYS as usize / 2
-            && are_found(&growing, alloc, false, true)?
-            && are_found(&growing, alloc, true, false)?,
-    )
+fn found_twice(alloc: Global) -> Result<(Found, Found), Refusal> {
+    let mut numbers = Numbers::with_keys(alloc, Texts::OneHash, KEYS)?;
+    numbers.found_twice()
 }
 
 #[test]
 fn keys_of_one_hash(rt: HostRuntime) {
-    assert_eq!(rt; have_one_hash(rt.alloc()), Ok(true));
-    assert_eq!(rt; all_are_found(rt.alloc()), Ok(true));
-    assert_eq!(rt; even_are_left(rt.alloc()), Ok(true));
+    let all = Found {
+        len: 512,
+        even: 256,
+        odd: 256,
+        absent: 0,
+    };
+    let even = Found {
+        len: 256,
+        even: 256,
+        odd: 0,
+        absent: 256,
+    };
+    assert_same(&rt, &"hashes", &of_one_hash(rt.alloc()), &Ok(KEYS));
+    assert_same(&rt, &"keys", &found_twice(rt.alloc()), &Ok((all, even)));
 }

@@ -1,115 +1,127 @@
 //! When a growth starts, and how far each change brings it.
-use crate::calls::{empty, has_all, key_text, put, put_all, remove};
+use crate::checks::assert_same;
+use crate::numbers::{Numbers, Texts};
 use bin_table::MOST_BINS;
-use bin_transfer::Growing;
 use map_types::Refusal;
 use std::alloc::Global;
 
-fn grown(alloc: Global, keys: u32) -> Result<Growing, Refusal> {
-    let mut growing = empty(alloc)?;
-    put_all(&mut growing, alloc, keys)?;
-    Ok(growing)
+/// What is done to a map behind its new keys.
+#[derive(Clone, Copy, Debug)]
+enum Then {
+    Nothing,
+    /// A key is removed.
+    Remove,
+    /// Each key is read.
+    Read,
+    /// Three keys are mapped again to their numbers, and each key is read.
+    PutAgain,
 }
 
-/// The bins, and whether a growth runs, after `keys` new keys.
-fn seen(alloc: Global, keys: u32) -> Result<(usize, bool), Refusal> {
-    let growing = grown(alloc, keys)?;
-    Ok((growing.bins(), growing.is_growing()))
+/// The bins, whether a growth runs, and whether the answers were right.
+type Seen = (usize, bool, bool);
+
+impl Numbers {
+    /// Whether the first three keys are mapped to their numbers, to which it maps them again.
+    fn put_three_again(&mut self) -> Result<bool, Refusal> {
+        for number in 0..3 {
+            let value = i64::from(number);
+            if self.put(number, value)? != Some(value) {
+                return Ok(false);
+            }
+        }
+        Ok(true)
+    }
+
+    /// Does that to a map of `keys` keys, and says whether the answers are right.
+    fn answers(&mut self, then: Then, keys: u32) -> Result<bool, Refusal> {
+        match then {
+            Then::Nothing => Ok(true),
+            Then::Remove => Ok(self.remove(7)? == Some(7)),
+            Then::Read => self.has_all(keys),
+            Then::PutAgain => Ok(self.put_three_again()? && self.has_all(keys)?),
+        }
+    }
+    /// The same, and what is seen then.
+    fn seen(&mut self, keys: u32, then: Then) -> Result<Seen, Refusal> {
+        let are_right = self.answers(then, keys)?;
+        Ok((self.growing.bins(), self.growing.is_growing(), are_right))
+    }
 }
+
+/// The bins, whether a growth runs, and whether the answers were right, after `keys` new keys and what
+/// is done then.
+fn seen(alloc: Global, keys: u32, then: Then) -> Result<Seen, Refusal> {
+    let mut numbers = Numbers::with_keys(alloc, Texts::Rising, keys)?;
+    numbers.seen(keys, then)
+}
+
+/// New keys, what is done then, how many bins there are, and whether a growth runs. Each change helps a
+/// growth that runs, and no read does.
+static GROWTHS: [(u32, Then, usize, bool); 21] = [
+    (0, Then::Nothing, 1, false),
+    (1, Then::Nothing, 1, false),
+    (2, Then::Nothing, 2, false),
+    (3, Then::Nothing, 4, false),
+    (4, Then::Nothing, 8, false),
+    (5, Then::Nothing, 8, false),
+    (6, Then::Nothing, 8, false),
+    (7, Then::Nothing, 16, false),
+    (12, Then::Nothing, 16, false),
+    (13, Then::Nothing, 32, false),
+    (24, Then::Nothing, 32, false),
+    (25, Then::Nothing, 32, true),
+    (26, Then::Nothing, 64, false),
+    (48, Then::Nothing, 64, false),
+    (49, Then::Nothing, 64, true),
+    (50, Then::Nothing, 64, true),
+    (51, Then::Nothing, 64, true),
+    (52, Then::Nothing, 128, false),
+    (25, Then::Remove, 64, false),
+    (25, Then::Read, 32, true),
+    (49, Then::PutAgain, 128, false),
+];
 
 #[test]
 fn growth_by_new_keys(rt: HostRuntime) {
-    for (keys, bins, is_growing) in [
-        (0, 1, false),
-        (1, 1, false),
-        (2, 2, false),
-        (3, 4, false),
-        (4, 8, false),
-        (5, 8, false),
-        (6, 8, false),
-        (7, 16, false),
-        (12, 16, false),
-        (13, 32, false),
-        (24, 32, false),
-        (25, 32, true),
-        (26, 64, false),
-        (48, 64, false),
-        (49, 64, true),
-        (50, 64, true),
-        (51, 64, true),
-        (52, 128, false),
-    ] {
-        assert_eq!(rt;
-            seen(rt.alloc(), keys),
-            Ok((bins, is_growing)),
-            "{keys} keys"
-        );
+    for row in &GROWTHS {
+        let found = seen(rt.alloc(), row.0, row.1);
+        assert_same(&rt, row, &found, &Ok((row.2, row.3, true)));
     }
 }
 
-/// The bins, and whether a growth runs, after 25 new keys and a change that maps no new one.
-fn seen_after_remove(alloc: Global) -> Result<(usize, bool), Refusal> {
-    let mut growing = grown(alloc, 25)?;
-    remove(&mut growing, alloc, "k00007")?;
-    Ok((growing.bins(), growing.is_growing()))
-}
-
-#[test]
-fn remove_helps(rt: HostRuntime) {
-    assert_eq!(rt; seen_after_remove(rt.alloc()), Ok((64, false)));
-}
-
-/// Whether each key is found after the 25th, and the reads leave the growth as it was.
-fn reads_leave_the_growth(alloc: Global) -> Result<bool, Refusal> {
-    let growing = grown(alloc, 25)?;
-    Ok(has_all(&growing, alloc, 25)? && growing.bins() == 32 && growing.is_growing())
-}
-
-#[test]
-fn reads_find_each_key_and_move_none(rt: HostRuntime) {
-    assert_eq!(rt; reads_leave_the_growth(rt.alloc()), Ok(true));
-}
-
-/// Whether a key that was moved, and one that wasn't, are changed where they stand.
-fn changes_reach_both_tables(alloc: Global) -> Result<bool, Refusal> {
-    let mut growing = grown(alloc, 49)?;
-    for number in 0..3 {
-        let text = key_text(alloc, number)?;
-        if put(&mut growing, alloc, text.as_str(), i64::from(number))? != Some(i64::from(number)) {
-            return Ok(false);
+impl Numbers {
+    /// How many old bins each of five helps moves, of a growth that starts.
+    fn helps(&mut self) -> Result<[usize; 5], Refusal> {
+        let mut counts = [0; 5];
+        if self.growing.is_growing() || self.growing.bins() >= MOST_BINS {
+            return Ok(counts);
         }
+        self.growing.start(self.alloc)?;
+        for count in counts.iter_mut() {
+            *count = self.growing.help();
+        }
+        Ok(counts)
     }
-    Ok(growing.len() == 49 && has_all(&growing, alloc, 49)?)
 }
 
-#[test]
-fn changes_while_a_growth_runs(rt: HostRuntime) {
-    assert_eq!(rt; changes_reach_both_tables(rt.alloc()), Ok(true));
-}
-
-/// How many old bins each of five helps moves, of a growth that starts after `keys` new keys.
+/// The same of a map of `keys` new keys.
 fn helped(alloc: Global, keys: u32) -> Result<[usize; 5], Refusal> {
-    let mut growing = grown(alloc, keys)?;
-    if growing.is_growing() || growing.bins() >= MOST_BINS {
-        return Ok([0; 5]);
-    }
-    growing.start(alloc)?;
-    let mut counts = [0; 5];
-    for count in counts.iter_mut() {
-        *count = growing.help();
-    }
-    Ok(counts)
+    let mut numbers = Numbers::with_keys(alloc, Texts::Rising, keys)?;
+    numbers.helps()
 }
+
+/// New keys, and how many old bins the helps move.
+static HELPS: [(u32, [usize; 5]); 5] = [
+    (0, [1, 0, 0, 0, 0]),
+    (6, [8, 0, 0, 0, 0]),
+    (12, [16, 0, 0, 0, 0]),
+    (24, [16, 16, 0, 0, 0]),
+    (48, [16, 16, 16, 16, 0]),
+];
 
 #[test]
 fn helps_of_a_growth(rt: HostRuntime) {
-    for (keys, counts) in [
-        (0, [1, 0, 0, 0, 0]),
-        (6, [8, 0, 0, 0, 0]),
-        (12, [16, 0, 0, 0, 0]),
-        (24, [16, 16, 0, 0, 0]),
-        (48, [16, 16, 16, 16, 0]),
-    ] {
-        assert_eq!(rt; helped(rt.alloc(), keys), Ok(counts), "after {keys} keys");
+    for row in &HELPS {
+        assert_same(&rt, row, &helped(rt.alloc(), row.0), &Ok(row.1));
     }
 }

@@ -2,11 +2,13 @@
 #![tactic(auto)]
 
 #[cfg(test)]
-mod calls;
+mod checks;
 #[cfg(test)]
 mod collisions;
 #[cfg(test)]
 mod growths;
+#[cfg(test)]
+mod numbers;
 #[cfg(test)]
 mod random_calls;
 #[cfg(test)]

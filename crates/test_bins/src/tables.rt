@@ -1,13 +1,19 @@
 //! A table alone, and a map that is made of all its entries at once.
-ghost use Rattle.std.specs.Prelude.{◌≡◌, ◌^◌, ◌<◌};
-ghost use Rattle.bin_table.specs.Tables.{IsBinCount};
 
-use crate::calls::{empty, has_all, node, number_of, put, put_all, spread_of, stripes};
-use bin_table::{Bins, LentEntry};
+use crate::checks::assert_same;
+use crate::numbers::{Numbers, Texts, number_of, stripes};
+use bin_table::{Bins, LentEntry, Node};
 use bin_transfer::Growing;
-use java_hash::stripe_of;
+use java_hash::{spread_of, stripe_of};
 use map_types::{Key, Refusal, Value};
 use std::alloc::Global;
+
+/// A table of eight bins, for a part of a map of 16 stripes.
+#[derive(Drop)]
+struct Table {
+    alloc: Global,
+    bins: Bins,
+}
 
 fn eight_bins(alloc: Global) -> Result<Bins, Refusal> {
     Ok(Bins::new(alloc, stripes(16)?, 8)?)
@@ -15,173 +21,230 @@ fn eight_bins(alloc: Global) -> Result<Bins, Refusal> {
 
 /// The stripe of the key among 16, and its bin among 8 of that stripe.
 fn place_of(alloc: Global, text: &str) -> Result<(usize, usize), Refusal> {
-    let table = eight_bins(alloc)?;
-    let key = Key::new(alloc, text)?;
-    Ok((stripe_of(text, stripes(16)?), table.bin(spread_of(&key))))
+    let bins = eight_bins(alloc)?;
+    Ok((stripe_of(text, bins.stripes()), bins.bin(spread_of(text))))
 }
+
+/// Keys, their stripes and their bins.
+static PLACES: [(&str, usize, usize); 6] = [
+    ("a", 1, 6),
+    ("Aa", 0, 4),
+    ("BB", 0, 4),
+    ("hello", 11, 3),
+    ("polygenelubricants", 0, 0),
+    ("\u{1F600}", 8, 7),
+];
 
 #[test]
 fn stripes_and_bins_of_keys(rt: HostRuntime) {
-    for (text, stripe, bin) in [
-        ("a", 1, 6),
-        ("Aa", 0, 4),
-        ("BB", 0, 4),
-        ("hello", 11, 3),
-        ("polygenelubricants", 0, 0),
-        ("\u{1F600}", 8, 7),
-    ] {
-        assert_eq!(rt; place_of(rt.alloc(), text), Ok((stripe, bin)), "{text}");
+    for row in &PLACES {
+        let found = place_of(rt.alloc(), row.0);
+        assert_same(&rt, row, &found, &Ok((row.1, row.2)));
     }
 }
 
-fn set(table: &mut Bins, alloc: Global, text: &str, number: i64) -> Result<Option<i64>, Refusal> {
-    let node = node(alloc, text, number)?;
-    let spread = spread_of(&node.key);
-    Ok(number_of(table.set(spread, node).as_ref()))
-}
+impl Table {
+    fn empty(alloc: Global) -> Result<Table, Refusal> {
+        let bins = eight_bins(alloc)?;
+        Ok(Table { alloc, bins })
+    }
 
-fn take(table: &mut Bins, alloc: Global, text: &str) -> Result<Option<i64>, Refusal> {
-    let key = Key::new(alloc, text)?;
-    match table.take(spread_of(&key), &key) {
-        Some(node) => Ok(number_of(Some(&node.value))),
-        None => Ok(None),
+    /// Maps the key to the number, and returns the old one.
+    fn set(&mut self, text: &str, number: i64) -> Result<Option<i64>, Refusal> {
+        let key = Key::new(self.alloc, text)?;
+        let spread = spread_of(key.as_str());
+        let node = Node::new(self.alloc, key, Value::Int(number))?;
+        Ok(number_of(self.bins.set(spread, node).as_ref()))
+    }
+
+    /// Unmaps the key, and returns its number.
+    fn take(&mut self, text: &str) -> Result<Option<i64>, Refusal> {
+        let key = Key::new(self.alloc, text)?;
+        match self.bins.take(spread_of(key.as_str()), &key) {
+            Some(node) => Ok(number_of(Some(&node.value))),
+            None => Ok(None),
+        }
+    }
+
+    /// The number of the entry that is popped from the bin.
+    fn pop(&mut self, bin: usize) -> Option<i64> {
+        if bin >= self.bins.bins() {
+            return None;
+        }
+        number_of(Some(&self.bins.pop(bin)?.value))
+    }
+
+    /// What "Aa" had before each of two changes of it, once "BB" stands in its bin too. What it had, what
+    /// it has once it was taken out, and what is then popped from its bin, twice. Behind each, how many
+    /// entries there are.
+    fn two_keys(&mut self) -> Result<TwoKeys, Refusal> {
+        let replaced = [self.set("Aa", 1)?, self.set("BB", 2)?, self.set("Aa", 3)?];
+        let full = self.bins.len();
+        let emptied = [self.take("Aa")?, self.take("Aa")?, self.pop(4), self.pop(4)];
+        Ok((replaced, full, emptied, self.bins.len()))
+    }
+
+    fn set_all(&mut self, entries: &[(&str, i64)]) -> Result<(), Refusal> {
+        for entry in entries {
+            self.set(entry.0, entry.1)?;
+        }
+        Ok(())
+    }
+
+    /// Whether the entries are those, in their order.
+    fn has_sorted(&self, wanted: &[(&str, i64)]) -> Result<bool, Refusal> {
+        let entries = self.bins.entries_sorted(self.alloc)?;
+        Ok(are_entries(&entries, wanted))
+    }
+
+    /// What two keys of one bin came to, and whether keys that are set then stand in byte order.
+    fn came_to(&mut self) -> Result<(TwoKeys, bool), Refusal> {
+        let two_keys = self.two_keys()?;
+        self.set_all(&SET)?;
+        Ok((two_keys, self.has_sorted(&SORTED)?))
     }
 }
 
-/// The number of the entry that is popped from the bin.
-fn pop(table: &mut Bins, bin: usize) -> Option<i64> {
-    if bin >= table.bins() {
-        return None;
-    }
-    number_of(Some(&table.pop(bin)?.value))
-}
+type TwoKeys = ([Option<i64>; 3], usize, [Option<i64>; 4], usize);
 
-/// What "Aa" had before each of two changes of it, once "BB" stands in its bin too.
-fn replaced(alloc: Global, table: &mut Bins) -> Result<[Option<i64>; 3], Refusal> {
-    Ok([
-        set(table, alloc, "Aa", 1)?,
-        set(table, alloc, "BB", 2)?,
-        set(table, alloc, "Aa", 3)?,
-    ])
-}
-
-/// What "Aa" had, what it has once it was taken out, and what is then popped from its bin, twice.
-fn emptied(alloc: Global, table: &mut Bins) -> Result<[Option<i64>; 4], Refusal> {
-    Ok([
-        take(table, alloc, "Aa")?,
-        take(table, alloc, "Aa")?,
-        pop(table, 4),
-        pop(table, 4),
-    ])
-}
-
-fn lengths(alloc: Global) -> Result<([Option<i64>; 3], usize, [Option<i64>; 4], usize), Refusal> {
-    let mut table = eight_bins(alloc)?;
-    let replaced = replaced(alloc, &mut table)?;
-    let len = table.len();
-    let emptied = emptied(alloc, &mut table)?;
-    Ok((replaced, len, emptied, table.len()))
+fn table_came_to(alloc: Global) -> Result<(TwoKeys, bool), Refusal> {
+    let mut table = Table::empty(alloc)?;
+    table.came_to()
 }
 
 #[test]
-fn two_keys_of_one_bin(rt: HostRuntime) {
-    assert_eq!(rt;
-        lengths(rt.alloc()),
-        Ok(([None, None, Some(1)], 2, [Some(3), None, Some(2), None], 0))
+fn entries_of_a_table(rt: HostRuntime) {
+    let two_keys = ([None, None, Some(1)], 2, [Some(3), None, Some(2), None], 0);
+    let found = table_came_to(rt.alloc());
+    assert_same(
+        &rt,
+        &"two keys of one bin, and byte order",
+        &found,
+        &Ok((two_keys, true)),
     );
 }
 
-/// The entry at the place has this key and this number.
-fn stands_at(entries: &[(Key, Value)], place: usize, text: &str, number: i64) -> bool {
-    match entries.get(place) {
-        Some(entry) => entry.0.as_str() == text && number_of(Some(&entry.1)) == Some(number),
-        None => false,
-    }
+/// Keys with their numbers, and in byte order.
+static SET: [(&str, i64); 3] = [("hello", 1), ("BB", 2), ("Aa", 3)];
+
+static SORTED: [(&str, i64); 3] = [("Aa", 3), ("BB", 2), ("hello", 1)];
+
+/// The same of keys that agree in their first 16 bytes.
+static LONG: [(&str, i64); 4] = [
+    ("sixteen bytes is b", 1),
+    ("sixteen bytes is a", 2),
+    ("sixteen bytes is", 3),
+    ("", 4),
+];
+
+static LONG_SORTED: [(&str, i64); 4] = [
+    ("", 4),
+    ("sixteen bytes is", 3),
+    ("sixteen bytes is a", 2),
+    ("sixteen bytes is b", 1),
+];
+
+/// Whether the entry has this key and this number.
+fn is_entry(key: &Key, value: &Value, wanted: &(&str, i64)) -> bool {
+    key.as_str() == wanted.0 && number_of(Some(value)) == Some(wanted.1)
 }
 
-fn sorted(alloc: Global) -> Result<bool, Refusal> {
-    let mut table = eight_bins(alloc)?;
-    set(&mut table, alloc, "hello", 1)?;
-    set(&mut table, alloc, "BB", 2)?;
-    set(&mut table, alloc, "Aa", 3)?;
-    let all = table.entries_sorted(alloc)?;
-    let entries = all.as_slice();
-    Ok(
-        entries.len() == 3
-            && stands_at(entries, 0, "Aa", 3)
-            && stands_at(entries, 1, "BB", 2)
-            && stands_at(entries, 2, "hello", 1),
-    )
-}
-
-#[test]
-fn entries_in_byte_order(rt: HostRuntime) {
-    assert_eq!(rt; sorted(rt.alloc()), Ok(true));
-}
-
-/// The lent entry at the place has this key and this number.
-fn is_lent_at(entries: &[LentEntry<'_>], place: usize, text: &str, number: i64) -> bool {
-    match entries.get(place) {
-        Some(entry) => {
-            entry.key().as_str() == text && number_of(Some(entry.value())) == Some(number)
+/// Whether these are the entries that are wanted, in their order.
+fn are_entries(entries: &[(Key, Value)], wanted: &[(&str, i64)]) -> bool {
+    for place in 0..wanted.len() {
+        match entries.get(place) {
+            Some((key, value)) => {
+                if !is_entry(key, value, &wanted[place]) {
+                    return false;
+                }
+            }
+            None => return false,
         }
-        None => false,
+    }
+    entries.len() == wanted.len()
+}
+
+/// The same of lent entries.
+fn are_lent(entries: &[LentEntry<'_>], wanted: &[(&str, i64)]) -> bool {
+    for place in 0..wanted.len() {
+        match entries.get(place) {
+            Some(entry) => {
+                if !is_entry(entry.key(), entry.value(), &wanted[place]) {
+                    return false;
+                }
+            }
+            None => return false,
+        }
+    }
+    entries.len() == wanted.len()
+}
+
+impl Numbers {
+    fn put_texts(&mut self, entries: &[(&str, i64)]) -> Result<(), Refusal> {
+        for entry in entries {
+            let key = Key::new(self.alloc, entry.0)?;
+            self.put_key(key, entry.1)?;
+        }
+        Ok(())
+    }
+
+    fn is_lent_sorted(&self) -> Result<bool, Refusal> {
+        let entries = self.growing.lent_sorted(self.alloc)?;
+        Ok(are_lent(&entries, &LONG_SORTED))
     }
 }
 
-fn lent(alloc: Global) -> Result<bool, Refusal> {
-    let mut growing = empty(alloc)?;
-    put(&mut growing, alloc, "sixteen bytes is b", 1)?;
-    put(&mut growing, alloc, "sixteen bytes is a", 2)?;
-    put(&mut growing, alloc, "sixteen bytes is", 3)?;
-    put(&mut growing, alloc, "", 4)?;
-    let all = growing.lent_sorted(alloc)?;
-    let entries = all.as_slice();
-    Ok(
-        entries.len() == 4
-            && is_lent_at(entries, 0, "", 4)
-            && is_lent_at(entries, 1, "sixteen bytes is", 3)
-            && is_lent_at(entries, 2, "sixteen bytes is a", 2)
-            && is_lent_at(entries, 3, "sixteen bytes is b", 1),
-    )
+fn is_lent_sorted(alloc: Global) -> Result<bool, Refusal> {
+    let mut numbers = Numbers::empty(alloc, Texts::Rising)?;
+    numbers.put_texts(&LONG)?;
+    numbers.is_lent_sorted()
 }
 
 #[test]
 fn lent_entries_in_byte_order(rt: HostRuntime) {
-    assert_eq!(rt; lent(rt.alloc()), Ok(true));
+    assert_same(&rt, &"lent", &is_lent_sorted(rt.alloc()), &Ok(true));
 }
 
-fn made_again(alloc: Global, keys: u32) -> Result<Growing, Refusal> {
-    let mut growing = empty(alloc)?;
-    put_all(&mut growing, alloc, keys)?;
-    let entries = growing.entries_sorted(alloc)?;
-    Ok(Growing::with_entries(alloc, stripes(1)?, entries)?)
+impl Numbers {
+    /// A map that is made of all entries of this one at once.
+    fn made_again(&self) -> Result<Numbers, Refusal> {
+        let entries = self.growing.entries_sorted(self.alloc)?;
+        let growing = Growing::with_entries(self.alloc, stripes(1)?, entries)?;
+        Ok(Numbers {
+            alloc: self.alloc,
+            growing,
+            texts: Texts::Rising,
+        })
+    }
+    /// The bins of such a map of `keys` entries, whether a growth runs, and whether all are found.
+    fn made_bins(&self, keys: u32) -> Result<(usize, bool, bool), Refusal> {
+        let again = self.made_again()?;
+        let has_all = again.has_all(keys)?;
+        Ok((again.growing.bins(), again.growing.is_growing(), has_all))
+    }
 }
 
-/// The bins of a map of `keys` entries, whether a growth runs, and whether all are found.
 fn made_bins(alloc: Global, keys: u32) -> Result<(usize, bool, bool), Refusal> {
-    let growing = made_again(alloc, keys)?;
-    let has_all = growing.len() == keys as usize && has_all(&growing, alloc, keys)?;
-    Ok((growing.bins(), growing.is_growing(), has_all))
+    let numbers = Numbers::with_keys(alloc, Texts::Rising, keys)?;
+    numbers.made_bins(keys)
 }
 
-/// The least number of bins m with fewer entries than m - m / 4.
+/// Entries, and the least number of bins m with fewer entries than m - m / 4.
+static FEWEST: [(u32, usize); 8] = [
+    (0, 1),
+    (1, 2),
+    (2, 4),
+    (3, 8),
+    (5, 8),
+    (6, 16),
+    (47, 64),
+    (48, 128),
+];
+
 #[test]
 fn bins_of_entries(rt: HostRuntime) {
-    for (keys, bins) in [
-        (0, 1),
-        (1, 2),
-        (2, 4),
-        (3, 8),
-        (5, 8),
-        (6, 16),
-        (47, 64),
-        (48, 128),
-    ] {
-        assert_eq!(rt;
-            made_bins(rt.alloc(), keys),
-            Ok((bins, false, true)),
-            "{keys} keys"
-        );
+    for row in &FEWEST {
+        let found = made_bins(rt.alloc(), row.0);
+        assert_same(&rt, row, &found, &Ok((row.1, false, true)));
     }
 }
