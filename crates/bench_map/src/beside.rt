@@ -3,7 +3,7 @@
 use crate::maps::{Filling, MapCaller};
 use crate::plain::{Difference, Plain};
 use crate::sections::sections;
-use crate::writers::Writing;
+use crate::writers::{Writing, work};
 use bulk_tasks::View;
 use disk_model::MemDisk;
 use durable_map::{Captured, DurableMap};
@@ -104,9 +104,10 @@ fn beside_writers<R: Threads + Wait + Sync>(
     let outcome = thread::scope(thread::scope_env(), rt, |scope| {
         let mut are_started = true;
         for thread in 0..size.writers.saturating_add(1) {
-            if are_started {
-                let started = scope.spawn(move || writing.work(rt, alloc, map, thread));
-                are_started = started.is_ok();
+            let started = scope.spawn(move || work(rt, alloc, map, writing, thread));
+            are_started = started.is_ok();
+            if !are_started {
+                break;
             }
         }
         let outcome = if are_started {

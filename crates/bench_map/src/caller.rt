@@ -1,7 +1,7 @@
 //! One thread's calls on shared stripes, made again if another thread holds the stripe.
 ghost use Rattle.std.specs.Prelude.{◌≡◌, None};
 ghost use Rattle.std.specs.Coded.{Coded-set, coded_option};
-ghost use Rattle.ticket_order.specs.contracts.record.Holding as holding_type;
+ghost use Rattle.ticket_order.specs.contracts.record.Holding.{the_row as row};
 ghost use Rattle.stripe_locks.specs.Passes.{recorded, IsPassOf};
 
 use crate::keys::NumberedKey;
@@ -23,7 +23,7 @@ pub(crate) struct Caller<'a> {
     stripes: &'a Stripes,
     pass: Pass,
     ghost own: { IsPassOf stripes.now pass },
-    ghost idle: { (recorded pass).holding ≡ None } by { Coded-set (coded_option holding_type.the_row.coded) _ _ },
+    ghost idle: { (recorded pass).holding ≡ None } by { Coded-set (coded_option row.coded) _ _ },
 }
 
 impl<'a> Caller<'a> {
@@ -96,6 +96,7 @@ impl<'a> Caller<'a> {
         self.sweep();
         Some(spent)
     }
+
     /// Calls of all kinds, which leave the keys as they were: absent. Adds what they take.
     pub(crate) fn take_turn<R: Clock>(
         &mut self,

@@ -19,6 +19,7 @@ impl Kind {
     /// All kinds, in the order in which they are made: they leave the map empty.
     pub(crate) const ALL: [Kind; 4] = [Kind::PutNew, Kind::PutOld, Kind::Get, Kind::Remove];
 
+    /// The name that its line begins with.
     pub(crate) fn name(self) -> &'static str {
         match self {
             Kind::PutNew => "put-new",
@@ -49,6 +50,7 @@ pub(crate) struct Times {
 }
 
 impl Times {
+    /// No time.
     pub(crate) const NONE: Times = Times {
         put_new: Duration::ZERO,
         put_old: Duration::ZERO,
@@ -56,6 +58,7 @@ impl Times {
         remove: Duration::ZERO,
     };
 
+    /// Adds what calls of this kind took.
     pub(crate) fn add(&mut self, kind: Kind, spent: Duration) {
         match kind {
             Kind::PutNew => self.put_new = self.put_new.saturating_add(spent),
@@ -86,6 +89,7 @@ pub(crate) struct Rates {
 }
 
 impl Rates {
+    /// No calls.
     pub(crate) const NONE: Rates = Rates {
         put_new: 0,
         put_old: 0,
@@ -93,6 +97,7 @@ impl Rates {
         remove: 0,
     };
 
+    /// The rate of this kind.
     pub(crate) fn of(self, kind: Kind) -> u128 {
         match kind {
             Kind::PutNew => self.put_new,

@@ -1,7 +1,7 @@
 //! A map in memory with as many entries as are asked for, and one thread's calls on it.
 ghost use Rattle.std.specs.Prelude.{◌≡◌, None};
 ghost use Rattle.std.specs.Coded.{Coded-set, coded_option};
-ghost use Rattle.ticket_order.specs.contracts.record.Holding as holding_type;
+ghost use Rattle.ticket_order.specs.contracts.record.Holding.{the_row as row};
 ghost use Rattle.stripe_locks.specs.Passes.{recorded};
 ghost use Rattle.durable_map.specs.Maps.{IsPassOf};
 
@@ -40,7 +40,7 @@ pub(crate) struct MapCaller<'a> {
     pub map: &'a DurableMap<MemDisk>,
     pub pass: Pass,
     ghost own: { IsPassOf map.now pass },
-    ghost idle: { (recorded pass).holding ≡ None } by { Coded-set (coded_option holding_type.the_row.coded) _ _ },
+    ghost idle: { (recorded pass).holding ≡ None } by { Coded-set (coded_option row.coded) _ _ },
 }
 
 impl<'a> MapCaller<'a> {

@@ -13,6 +13,7 @@ pub(crate) struct Turns {
 }
 
 impl Turns {
+    /// As many turns as one batch takes.
     pub(crate) fn of_a_batch() -> Turns {
         Turns {
             left: AtomicU32::new(TURNS_OF_A_BATCH),

@@ -89,23 +89,23 @@ impl Writing {
         }
         unreachable!()
     }
+}
 
-    /// The work of the thread of this number: the first one commits, and each other is a writer.
-    pub(crate) fn work<R: Wait>(
-        &self,
-        rt: &R,
-        alloc: Global,
-        map: &DurableMap<MemDisk>,
-        thread: u32,
-    ) {
-        if thread == 0 {
-            let _ended = flush_loop(rt, map, self);
-            return;
-        }
-        self.writers.fetch_add(1, Ordering::SeqCst);
-        if self.add_on(rt, alloc, map, thread).is_err() {
-            self.was_refused.store(true, Ordering::SeqCst);
-        }
-        self.writers.fetch_sub(1, Ordering::SeqCst);
+/// The work of the thread of this number: the first one commits, and each other is a writer.
+pub(crate) fn work<R: Wait>(
+    rt: &R,
+    alloc: Global,
+    map: &DurableMap<MemDisk>,
+    writing: &Writing,
+    thread: u32,
+) {
+    if thread == 0 {
+        let _ended = flush_loop(rt, map, writing);
+        return;
     }
+    writing.writers.fetch_add(1, Ordering::SeqCst);
+    if writing.add_on(rt, alloc, map, thread).is_err() {
+        writing.was_refused.store(true, Ordering::SeqCst);
+    }
+    writing.writers.fetch_sub(1, Ordering::SeqCst);
 }
