@@ -41,6 +41,7 @@ impl Numbers {
             Then::PutAgain => Ok(self.put_three_again()? && self.has_all(keys)?),
         }
     }
+
     /// The same, and what is seen then.
     fn seen(&mut self, keys: u32, then: Then) -> Result<Seen, Refusal> {
         let are_right = self.answers(then, keys)?;

@@ -38,10 +38,12 @@ impl Texts {
     }
 }
 
+/// So many stripes, if a map may have that many.
 pub(crate) fn stripes(count: u16) -> Result<StripeCount, Refusal> {
     StripeCount::new(count).ok_or(Refusal::WrongPhase)
 }
 
+/// The number that the value is, if it is one.
 pub(crate) fn number_of(value: Option<&Value>) -> Option<i64> {
     match value {
         Some(Value::Int(number)) => Some(*number),

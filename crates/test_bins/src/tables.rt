@@ -216,6 +216,7 @@ impl Numbers {
             texts: Texts::Rising,
         })
     }
+
     /// The bins of such a map of `keys` entries, whether a growth runs, and whether all are found.
     fn made_bins(&self, keys: u32) -> Result<(usize, bool, bool), Refusal> {
         let again = self.made_again()?;
