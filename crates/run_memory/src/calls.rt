@@ -16,9 +16,9 @@ fn make<R: AllocGlobal + Print + Wait>(
     marks: Marks,
 ) -> Result<bool> {
     let asked = asked_in(rt.alloc(), text)?;
-    marks.begin(rt);
+    marks.begin(rt)?;
     let answer = store.call(rt, asked, is_to_wait);
-    marks.end(rt);
+    marks.end(rt)?;
     show_answer(rt, "held", answer)?;
     store.show_stripes(rt)?;
     Ok(answer.is_err())

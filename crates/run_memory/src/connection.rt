@@ -52,9 +52,9 @@ fn serve<R: AllocGlobal + Print, C: Calls>(
     let frames = bytes_spelled(rt.alloc(), text)?.context("bytes in hexadecimal")?;
     let mut reader = frames.as_slice();
     let mut replies = Vec::with_capacity(rt.alloc(), ROOM)?;
-    marks.begin(rt);
+    marks.begin(rt)?;
     let ended = serve_connection(rt.alloc(), &mut reader, &mut replies, calls);
-    marks.end(rt);
+    marks.end(rt)?;
     show_replies(rt, replies.as_slice(), &ended)
 }
 

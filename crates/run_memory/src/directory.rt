@@ -97,9 +97,9 @@ fn open_shown<D: Disk + Drop, R: AllocGlobal + Print>(
     case: &Case<'_>,
     marks: Marks,
 ) -> Result<Option<D>> {
-    marks.begin(rt);
+    marks.begin(rt)?;
     let answer = open_as(rt.alloc(), disk, case.stripes, case.word == "open_parts");
-    marks.end(rt);
+    marks.end(rt)?;
     match answer {
         Ok(opened) => {
             show_opened(rt, &opened)?;
@@ -144,9 +144,9 @@ fn format_shown<D: Disk, R: AllocGlobal + Print>(
     stripes: StripeCount,
     marks: Marks,
 ) -> Result<bool> {
-    marks.begin(rt);
+    marks.begin(rt)?;
     let answer = format(rt.alloc(), disk, stripes);
-    marks.end(rt);
+    marks.end(rt)?;
     match answer {
         Ok(()) => println!(rt; "formatted")?,
         Err(refusal) => println!(rt; "refused {refusal}")?,

@@ -29,9 +29,9 @@ fn node_in(alloc: Global, text: &str) -> Result<Box<Node>> {
 
 /// Makes the growth that is due, as a change does before it adds its key.
 fn grow<R: AllocGlobal + Print>(rt: &R, table: &mut Growing, marks: Marks) -> io::Result<()> {
-    marks.begin(rt);
+    marks.begin(rt)?;
     let is_put_off = table.grow(rt.alloc());
-    marks.end(rt);
+    marks.end(rt)?;
     if is_put_off {
         println!(rt; "put off")?;
     }

@@ -1,5 +1,5 @@
-//! The lines round a call. `tests/faults.c` knows `begin` and `end`. A line that can't be written is
-//! missed by who reads them.
+//! The lines round a call. `tests/faults.c` knows `begin` and `end`.
+use std::io;
 
 /// What is printed round a call.
 #[derive(Clone, Copy)]
@@ -14,19 +14,19 @@ pub(crate) enum Marks {
 
 impl Marks {
     /// Prints the line before the call.
-    pub(crate) fn begin<R: Print>(self, rt: &R) {
+    pub(crate) fn begin<R: Print>(self, rt: &R) -> io::Result<()> {
         match self {
-            Marks::Both => drop(rt.write_all(b"begin\n")),
-            Marks::Again => drop(rt.write_all(b"again\n")),
-            Marks::None => {}
+            Marks::Both => rt.write_all(b"begin\n"),
+            Marks::Again => rt.write_all(b"again\n"),
+            Marks::None => Ok(()),
         }
     }
 
     /// Prints the line behind the call.
-    pub(crate) fn end<R: Print>(self, rt: &R) {
+    pub(crate) fn end<R: Print>(self, rt: &R) -> io::Result<()> {
         match self {
-            Marks::Both => drop(rt.write_all(b"end\n")),
-            Marks::Again | Marks::None => {}
+            Marks::Both => rt.write_all(b"end\n"),
+            Marks::Again | Marks::None => Ok(()),
         }
     }
 }

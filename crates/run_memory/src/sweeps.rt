@@ -23,9 +23,9 @@ fn make<R: AllocGlobal + Print + Wait>(
     name: &str,
     marks: Marks,
 ) -> Result<bool> {
-    marks.begin(rt);
+    marks.begin(rt)?;
     let answer = store.keep(rt, word);
-    marks.end(rt);
+    marks.end(rt)?;
     show_answer(rt, name, answer)?;
     show(rt, store)?;
     Ok(answer.is_err())

@@ -58,9 +58,9 @@ fn take_view<D: Disk + Drop, R: Host>(
     marks: Marks,
 ) -> Result<bool> {
     let mut pass = map.pass()?;
-    marks.begin(rt);
+    marks.begin(rt)?;
     let answer = bulk_tasks::view(rt, rt.alloc(), map, &mut pass);
-    marks.end(rt);
+    marks.end(rt)?;
     Ok(show_viewed(rt, &answer, stripes)?)
 }
 
@@ -164,12 +164,12 @@ fn ask_shown<D: Disk + Drop, R: Host>(
     called: &Called,
     marks: Marks,
 ) -> Result<bool> {
-    marks.begin(rt);
+    marks.begin(rt)?;
     let answer = match view {
         Some(view) => ask_view(rt, view, called),
         None => ask_map(rt, map, called),
     };
-    marks.end(rt);
+    marks.end(rt)?;
     show_answer(rt, &answer)
 }
 
