@@ -3,7 +3,7 @@ use crate::changes::{longest, put};
 use crate::releases::{Ends, release_all};
 use checkpoint_walk::{begin, capture, seal, try_capture};
 use disk_model::MemDisk;
-use flusher::Keeper;
+use flusher::{Keeper, laws};
 use java_hash::StripeCount;
 use log_records::Version;
 use map_types::{Command, Key, Question, Read, Refusal};
@@ -225,6 +225,8 @@ impl Store {
         }
         let mut steps = self.stripes.at(&mut self.pass);
         self.keeper.fail(&mut steps);
+        laws::stops_of_a_keeper(&self.keeper);
+        laws::committed_were_taken(&self.keeper);
         Ok(0)
     }
 
