@@ -1,5 +1,6 @@
 //! Tests of the running store: its calls on threads beside its loops, views and bulk answers over it, in
-//! memory and over a directory.
+//! memory and over a directory; and of a served map over sockets of this machine, whose workers and loops
+//! are on threads of their own.
 #![tactic(auto)]
 
 #[cfg(test)]
@@ -7,7 +8,11 @@ mod begun;
 #[cfg(test)]
 mod calls;
 #[cfg(test)]
+mod clients;
+#[cfg(test)]
 mod directory;
+#[cfg(test)]
+mod failing;
 #[cfg(test)]
 mod leading;
 #[cfg(test)]
@@ -16,6 +21,14 @@ mod limits;
 mod maps;
 #[cfg(test)]
 mod part_steps;
+#[cfg(test)]
+mod pipeline;
+#[cfg(test)]
+mod sharing;
+#[cfg(test)]
+mod sockets;
+#[cfg(test)]
+mod stalling;
 #[cfg(test)]
 mod standing;
 #[cfg(test)]

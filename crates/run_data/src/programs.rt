@@ -1,22 +1,12 @@
-//! Plays the cases of the files that its words name, through the program itself, and tells of each
-//! whether it is as it should be. `docs/SCRIPTS.md` says how such a file is written.
-#![tactic(auto)]
-
-mod cases;
-mod disk_blocks;
-mod runs;
-mod scripts;
-mod streams;
-
+//! Plays the cases of a file through the program itself. `docs/SCRIPTS.md` says how such a file is written.
+use crate::cases::{Block, read_blocks};
+use crate::disk_blocks::{has_length, is_absent, make_directory, opens_as, write_file};
+use crate::runs::play_run;
+use crate::schedules::play_script;
 use anyhow::{Result, bail};
-use cases::{Block, read_blocks};
-use disk_blocks::{has_length, is_absent, make_directory, opens_as, write_file};
 use disk_model::{DirDisk, Unknown};
 use map_server::Host;
-use runs::play_run;
-use scripts::play_script;
-use std::net::{TcpListener, TcpStream};
-use std::{env, fs};
+use std::fs;
 
 /// Does what a block says that looks at nothing. For another block it returns `false`.
 fn prepare<R: Host + AllocGlobal>(
@@ -108,20 +98,11 @@ fn play_cases<R: Host + AllocGlobal + Print>(rt: &R, blocks: &[Block<'_>]) -> Re
     Ok(())
 }
 
-fn play_file<R: Host + AllocGlobal + Print>(rt: &R, name: &str) -> Result<()> {
+/// Plays the cases of this file, and tells of each whether it is as it should be.
+pub fn play_file<R: Host + AllocGlobal + Print>(rt: &R, name: &str) -> Result<()> {
     let alloc = rt.alloc();
     println!(rt; "{name}")?;
     let text = fs::read_to_string(rt, name)?;
     let blocks = read_blocks(alloc, text.as_str())?;
     play_cases(rt, blocks.as_slice())
-}
-
-fn main(rt: HostRuntime) -> Result<()> {
-    // The check of `main` covers only types that it names, and the runtime's sockets are among them.
-    let _listener: Option<TcpListener> = None;
-    let _stream: Option<TcpStream> = None;
-    for name in env::args(&rt)?.skip(1) {
-        play_file(&rt, name.as_str())?;
-    }
-    Ok(())
 }
