@@ -26,10 +26,6 @@ mod pipeline;
 #[cfg(test)]
 mod sharing;
 #[cfg(test)]
-mod sockets;
-#[cfg(test)]
-mod stalling;
-#[cfg(test)]
 mod standing;
 #[cfg(test)]
 mod view_steps;

@@ -1,6 +1,6 @@
-//! Clients that share a map: one that is held, one that breaks off, and eight at once.
+//! Clients that share a map: one that is held, and one that breaks off.
 use crate::clients::{
-    MOST_TURNS, PUT, connected, map_over, received, repeated, send_each, serve_listed, served,
+    MOST_TURNS, PUT, connected, map_over, received, send_each, serve_listed, served,
 };
 use cmd_serve::{Figures, NoObserver, Observer};
 use disk_model::MemDisk;
@@ -23,15 +23,6 @@ const FIVE_AND_ABSENT: &[u8] = b"\x00\x0A\x00\x01\x00\x00\x00\x00\x00\x00\x00\x0
 
 /// What is answered to a refused length, and what is to another client.
 const BAD_FRAME_AND_5: &[u8] = b"\x00\x02\x86\x00\x00\x0A\x00\x01\x00\x00\x00\x00\x00\x00\x00\x05";
-
-/// Two merges of 1 with the sum, two questions, and their answers after 800 were added to each.
-const ADD_TO_A_AND_B: &[u8] =
-    b"\x00\x0E\x19\x00\x01a\x04\x01\x00\x00\x00\x00\x00\x00\x00\x01\x00\x0E\x19\x00\x01b\x04\x01\x00\x00\x00\x00\x00\x00\x00\x01";
-
-const GET_A_AND_B: &[u8] = b"\x00\x04\x01\x00\x01a\x00\x04\x01\x00\x01b";
-
-const BOTH_ARE_800: &[u8] =
-    b"\x00\x0A\x01\x01\x00\x00\x00\x00\x00\x00\x03\x20\x00\x0A\x01\x01\x00\x00\x00\x00\x00\x00\x03\x20";
 
 /// Holds the first request until the second was answered.
 #[derive(Drop)]
@@ -131,33 +122,5 @@ fn a_connection_breaks_off_alone(rt: HostRuntime) -> Result<(), Fail> {
     let sent = sent_beside_broken(&rt, rt.alloc(), &map);
     drop(map);
     assert_eq!(rt; sent?.as_slice(), BAD_FRAME_AND_5);
-    Ok(())
-}
-
-/// Eight clients add 1 to two counters, a hundred times each, and then another one asks for both: how
-/// many bytes the eight are sent, and what the other one is.
-fn add_and_ask<
-    R: Net<Listener = TcpListener, Stream = TcpStream>
-        + Clock
-        + Figures
-        + Log
-        + Threads
-        + Wait
-        + Sync,
->(rt: &R, alloc: Global, map: &DurableMap<MemDisk>) -> Result<(usize, Vec<u8>), Fail> {
-    let merges = repeated(alloc, ADD_TO_A_AND_B, 100)?;
-    let sent = served(rt, alloc, map, &NoObserver, &[merges.as_slice(); 8], 8)?;
-    let counts = served(rt, alloc, map, &NoObserver, &[GET_A_AND_B], 1)?;
-    Ok((sent.len(), counts))
-}
-
-#[test]
-fn eight_clients_share_two_counters(rt: HostRuntime) -> Result<(), Fail> {
-    let map = map_over(rt.alloc(), None)?;
-    let sent = add_and_ask(&rt, rt.alloc(), &map);
-    drop(map);
-    let (len, counts) = sent?;
-    assert_eq!(rt; len, 8 * 200 * 12);
-    assert_eq!(rt; counts.as_slice(), BOTH_ARE_800);
     Ok(())
 }
