@@ -154,9 +154,6 @@ class Session(Process):
     def test_a_directory_that_is_absent(self):
         self.assertEqual([], self.cannot_serve(self.directory + "3", 7411, "No such file or directory"))
 
-    def test_a_directory_is_formatted_once(self):
-        self.assertEqual((1, "", "refused 15 AlreadyFormatted\n"), run("init", self.directory))
-
     def test_a_record_tells_the_prefix(self):
         """Each start writes one Info record on standard error, before it listens."""
         records = ""

@@ -38,6 +38,7 @@ class Words(unittest.TestCase):
         return printed.splitlines()
 
     def test_an_empty_input_of_the_map_in_memory(self):
+        """Nothing is said of it, and no record is written."""
         self.assertEqual((0, "", ""), run("mem"))
 
     def test_words_of_a_server_that_are_not_allowed(self):
