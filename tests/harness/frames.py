@@ -1,6 +1,6 @@
 """Frames of requests and replies, by a second reading of docs/PROTOCOL.md."""
-from harness.plain import (BAD_FRAME, FRAME_LIMIT, READS, REDUCING, REQUEST_KEY_WIDTH, UNKNOWN_FUNCTION, WHOLE_MAP, Bytes, Map,
-                           Method, Refused, record_at, value_bytes)
+from harness.plain import (BAD_FRAME, FRAME_LIMIT, READS, REDUCING, REQUEST_KEY_WIDTH, UNKNOWN_FUNCTION, WHOLE_MAP, Bytes,
+                           Map, Method, Refused, record_at, value_bytes)
 
 
 def frame(body):
