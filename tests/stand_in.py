@@ -29,10 +29,10 @@ import socket
 import struct
 import threading
 
-from harness import plain
+from harness import frames, plain
 from harness.plain import Method
 
-FAILED, NO_MEMORY = plain.refusal_bytes(plain.FAILED), plain.refusal_bytes(plain.NO_MEMORY)
+FAILED, NO_MEMORY = frames.refusal_bytes(plain.FAILED), frames.refusal_bytes(plain.NO_MEMORY)
 # A reply with a kind of value that there isn't.
 GARBLED = b"\x00\x02\x01\x07"
 RELEASE = (Method.get, "release")
@@ -62,7 +62,7 @@ class StandIn:
     def action_on(self, body):
         """What a rule says of this request; the rule is used up."""
         try:
-            method, key, _ = plain.request_of(body)
+            method, key, _ = frames.request_of(body)
         except plain.Refused:
             return None, 0
         if (method, key) == RELEASE:
@@ -74,9 +74,9 @@ class StandIn:
         """The reply to a request, which is made."""
         with self.lock:
             try:
-                return plain.reply_bytes(*self.map.call(plain.request_of(body)))
+                return frames.reply_bytes(*self.map.call(frames.request_of(body)))
             except plain.Refused as refused:
-                return plain.refusal_bytes(refused.number)
+                return frames.refusal_bytes(refused.number)
 
 
 class Served:
@@ -100,7 +100,7 @@ class Served:
         head = self.stream.read(2)
         body = self.stream.read(int.from_bytes(head, "big")) if len(head) == 2 else b""
         if head == b"\0\0":
-            self.send(plain.refusal_bytes(plain.BAD_FRAME))
+            self.send(frames.refusal_bytes(plain.BAD_FRAME))
         elif body:
             self.stand_in.note("got", self.number, head + body)
         return body

@@ -17,7 +17,7 @@ import unittest
 
 import dchm
 import dchm_async
-from harness import plain, servers, suite
+from harness import frames, plain, servers, suite
 from harness.places import PROTOCOL_PAGE, STAND_IN, read
 from harness.suite import TURN_SECONDS, wait_until
 
@@ -125,7 +125,7 @@ def name_of(method):
 
 def request_of(body):
     """The method, the key and the arguments of a request, as the clients take them."""
-    method, key, arguments = plain.request_of(body)
+    method, key, arguments = frames.request_of(body)
     if method in (*plain.COMPUTE, plain.Method.merge, plain.Method.reduce):
         arguments = (dchm.Function(arguments[0]), *arguments[1:])
     return method, key, arguments

@@ -2,12 +2,13 @@
 import threading
 
 from harness import plain
+from harness.frames import refusal_bytes
 from harness.servers import Connection, Dchm
 
 COUNTERS = [b"c%d" % number for number in range(4)]
 # The replies that are refused with 9 and with 7.
-FAILED = plain.refusal_bytes(plain.FAILED)
-NO_MEMORY = plain.refusal_bytes(plain.NO_MEMORY)
+FAILED = refusal_bytes(plain.FAILED)
+NO_MEMORY = refusal_bytes(plain.NO_MEMORY)
 
 
 class Client(threading.Thread):

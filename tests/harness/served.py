@@ -5,8 +5,9 @@ import socket
 import struct
 import unittest
 
-from harness import plain
-from harness.plain import Method, frame, key_bytes, value_bytes
+from harness import frames, plain
+from harness.frames import frame
+from harness.plain import Method, key_bytes, value_bytes
 from harness.places import read
 from harness.servers import Dchm, connect_to, dchm, init, temporary_directory
 from harness.suite import named_program, wait_until
@@ -17,8 +18,8 @@ COUNT = frame(bytes([Method.count]))
 LONG = frame(bytes([Method.put]) + key_bytes("key") + value_bytes("t" * 4096))
 GET_LONG = Dchm.request("get", b"key")
 # The replies to a put of a key that was absent, and to a frame whose length is refused.
-WAS_ABSENT = plain.reply_bytes(plain.WAS, None)
-BAD_FRAME = plain.refusal_bytes(plain.BAD_FRAME)
+WAS_ABSENT = frames.reply_bytes(plain.WAS, None)
+BAD_FRAME = frames.refusal_bytes(plain.BAD_FRAME)
 REPLY_SECONDS = 60
 
 

@@ -13,7 +13,8 @@ import sys
 import tempfile
 import time
 
-from harness.plain import Function, Method, frame, key_bytes, value_bytes
+from harness.frames import frame
+from harness.plain import Function, Method, key_bytes, value_bytes
 
 HOST = "127.0.0.1"
 # Ports below those that the system gives to clients of its own choice.

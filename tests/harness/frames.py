@@ -1,0 +1,61 @@
+"""Frames of requests and replies, by a second reading of docs/PROTOCOL.md."""
+from harness.plain import (BAD_FRAME, FRAME_LIMIT, READS, REDUCING, REQUEST_KEY_WIDTH, UNKNOWN_FUNCTION, WHOLE_MAP, Bytes,
+                           Map, Method, Refused, record_at, value_bytes)
+
+
+def frame(body):
+    return len(body).to_bytes(2, "big") + body
+
+
+def whole_map_at(read):
+    """A request of the whole map: its method, no key, its arguments."""
+    method = read.number(1)
+    if method == Method.count:
+        return method, None, ()
+    if method == Method.search:
+        return method, None, (read.number(8), read.value())
+    function = read.number(1)
+    if function not in REDUCING:
+        raise Refused(UNKNOWN_FUNCTION)
+    return method, None, (function, read.number(8))
+
+
+def request_of(body):
+    """The request of a frame's body."""
+    read = Bytes(body)
+    if body[0] in READS:
+        method, key = read.number(1), read.key(REQUEST_KEY_WIDTH)
+        request = method, key, (read.value(),) if method == Method.getOrDefault else ()
+    elif body[0] in WHOLE_MAP:
+        request = whole_map_at(read)
+    else:
+        request = record_at(read, REQUEST_KEY_WIDTH)
+    if read.rest():
+        raise Refused(BAD_FRAME)
+    return request
+
+
+def reply_bytes(status, value):
+    return frame(bytes([status]) + value_bytes(value))
+
+
+def refusal_bytes(number):
+    return reply_bytes(0x80 + number, None)
+
+
+def dialogue(stream):
+    """The replies of a new map to all that a stream has, up to and with the first of status 86."""
+    store, replies, read = Map(), [], Bytes(stream)
+    while read.rest() >= 2:
+        length = read.number(2)
+        if not 1 <= length <= FRAME_LIMIT:
+            return b"".join([*replies, refusal_bytes(BAD_FRAME)])
+        if read.rest() < length:
+            break
+        try:
+            replies.append(reply_bytes(*store.call(request_of(read.take(length)))))
+        except Refused as refused:
+            replies.append(refusal_bytes(refused.number))
+            if refused.number == BAD_FRAME:
+                break
+    return b"".join(replies)
