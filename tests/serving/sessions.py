@@ -154,6 +154,11 @@ class Session(Process):
     def test_a_directory_that_is_absent(self):
         self.assertEqual([], self.cannot_serve(self.directory + "3", 7411, "No such file or directory"))
 
+    def test_a_directory_that_is_not_formatted(self):
+        other = self.directory + "4"
+        os.mkdir(other)
+        self.assertEqual((1, "", "refused 11 NotFormatted\n"), run("serve", other, "--port", "7411"))
+
     def test_a_record_tells_the_prefix(self):
         """Each start writes one Info record on standard error, before it listens."""
         records = ""
