@@ -1,5 +1,6 @@
 """Lists of events are played by the program, and what their lines print is compared with the reading."""
 import dataclasses
+import itertools
 
 from harness.plain import Method
 from harness.servers import play_script
@@ -38,17 +39,17 @@ def parts_of(events, keys):
 
 def compared(parts, printed, table):
     """The first line that prints something else than it has to, or None. The events up to it are counted."""
-    reading, number = Reading(), 0
+    reading, told = Reading(), enumerate(itertools.chain(printed, itertools.repeat("nothing")), 1)
     for part in parts:
-        told = None
+        outcome = reading.wanted(part.event)
         if part.line is not None:
-            told, number = (printed[number] if number < len(printed) else "nothing"), number + 1
-        outcome = reading.wanted(part.event, told)
-        if part.line is not None and told != outcome.text:
-            return f"line {number}, `{part.line}`, printed `{told}`, and `{outcome.text}` was wanted"
+            number, text = next(told)
+            if text != outcome.text:
+                return f"line {number}, `{part.line}`, printed `{text}`, and `{outcome.text}` was wanted"
         if part.is_listed:
             table.note(part.event, outcome)
-    return None if number == len(printed) else f"{len(printed)} lines of {number} were printed"
+    more = next(told)[0] - 1
+    return None if more == len(printed) else f"{len(printed)} lines were printed, of {more}"
 
 
 def play(program, events, keys):

@@ -1,7 +1,6 @@
 """The second reading: what is wanted of each event, by the rules read plainly.
 
-docs/SCRIPTS.md has what an event prints. Nothing here is taken from the program, but for whether the failing call of an
-opening was met: how many calls an opening makes isn't known here.
+docs/SCRIPTS.md has what an event prints. Nothing here is taken from the program.
 """
 import dataclasses
 
@@ -13,8 +12,9 @@ from searching.life import Life
 from searching.outcomes import CALL_FAILED, LONG_KEY, REFUSED, SKIPPED, Outcome, Tally, Way
 from searching.past import Past
 
-# The first calls of an opening are the syncs of the four files.
-LEAST_CALLS = 4
+# An opening syncs the four files, and looks at the heads of both checkpoints, at the one that is used in three calls, at
+# its log in two, and at the gate of the other checkpoint. No file of a list has more bytes than one of these calls reads.
+OPENING_CALLS, NEXT_LOG_CALLS = 12, 2
 NOT_OPENED = Outcome(CALL_FAILED, Tally.NOT_OPENED)
 
 
@@ -29,15 +29,15 @@ class Reading:
         self.released = 0
         self.is_first = True
 
-    def wanted(self, event, printed):
-        """What is wanted of the event, whose line has printed this."""
+    def wanted(self, event):
+        """What is wanted of the event."""
         is_first, self.is_first = self.is_first, False
         match event:
             case Old() if is_first:
                 self.disk.is_old = True
                 return Outcome("old")
             case Open() if not self.life:
-                return self.open(event, printed)
+                return self.open(event)
             case Stop(side=None):
                 return self.stop(event.fill)
             case _ if not self.life or event.line is None:
@@ -66,13 +66,12 @@ class Reading:
         self.life, self.disk = None, self.disk.stopped(fill)
         return Outcome("stop")
 
-    def open(self, event, printed):
-        """An opening, whose failing call is met or isn't."""
-        number = event.fails_at or 0
-        if 0 < number <= LEAST_CALLS or number and printed == CALL_FAILED:
-            self.disk.sync_below(number - 1)
+    def open(self, event):
+        """An opening, whose failing call is met or isn't. It reads a second log if one follows that of the checkpoint."""
+        read, fails_at = self.disk.as_read(), event.fails_at or 0
+        if 0 < fails_at <= OPENING_CALLS + (NEXT_LOG_CALLS if read.newest > read.sealed else 0):
+            self.disk.sync_below(fails_at - 1)
             return NOT_OPENED
-        read = self.disk.as_read()
         if not self.released <= read.committed <= self.past.count:
             return Outcome(f"open with {self.released} to {self.past.count} changes, but {read.committed} are committed")
         self.disk = read
