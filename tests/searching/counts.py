@@ -3,10 +3,9 @@ import collections
 
 from searching.outcomes import SKIPPED, CallKind, Tally, Way
 
-# `keeper step` isn't among them: the lines that begin sweeps and captures play these steps.
-KINDS = ("open", "open with a failing call", "change", "read", "step", "release", "sweep", "stage", "log call",
-         "failing log call", "checkpoint call", "failing checkpoint call", "publish", "fail", "begin", "capture", "seal",
-         "stop between calls", "stop within a log call", "stop within a checkpoint call", "leave", "old")
+KINDS = ("open", "open with a failing call", "change", "read", "step", "release", "sweep", "keeper step", "stage",
+         "log call", "failing log call", "checkpoint call", "failing checkpoint call", "publish", "fail", "begin", "capture",
+         "seal", "stop between calls", "stop within a log call", "stop within a checkpoint call", "leave", "old")
 EVENTS, MADE = "events", "of them not skipped"
 # Each row of the table: its name, and the words of its counts.
 ROWS = {kind: (EVENTS, MADE) for kind in KINDS}

@@ -4,7 +4,7 @@ import enum
 
 from harness.plain import KEY_LIMIT
 from searching.events import NEW, Side
-from searching.outcomes import (CALL_FAILED, SKIPPED, TOO_EARLY, WRONG_PHASE, Call, CallKind, Outcome, Tally, Way)
+from searching.outcomes import (SKIPPED, TOO_EARLY, WRONG_PHASE, Call, CallKind, Outcome, Tally, Way)
 
 # The most bytes of a key in a log of version 01.
 OLD_KEY_LIMIT = 255
@@ -75,11 +75,11 @@ class Gate:
 
     def written(self, is_open, fill):
         """Behind a write that was to open or close it, and failed with this fill; one that was made leaves `NEW`."""
-        return Gate(fill.opens(self.kept_open, is_open), self.kept_open, is_pending=True)
+        return Gate(fill.torn_open(self.kept_open, is_open), self.kept_open, is_pending=True)
 
-    def is_left_open(self, fill):
-        """Whether a stop with this fill leaves it open."""
-        return fill.opens(self.kept_open, self.reads_open) if self.is_pending else self.reads_open
+    def left(self, fill):
+        """Whether a stop with this fill leaves it open: one of these."""
+        return fill.left_open(self.kept_open, self.reads_open) if self.is_pending else (self.reads_open,)
 
 
 @dataclasses.dataclass
@@ -107,6 +107,9 @@ class Disk:
     # That of the file to which the next checkpoint goes. One that isn't there counts as open.
     other_gate: Gate = Gate.at_rest(True)
 
+    def copy(self):
+        return dataclasses.replace(self, checkpoint=self.checkpoint and dataclasses.replace(self.checkpoint))
+
     # ---- device calls
 
     def due(self, side):
@@ -122,24 +125,39 @@ class Disk:
         due = self.due(side)
         if not due:
             return SKIPPED
-        kind, phase = due
+        (kind, phase), told = due, self.told(due[0])
         self.write(kind, fill or NEW)
         if fill:
-            return Outcome(CALL_FAILED, call=Call(kind, Way.FAILED))
-        call = Call(kind, Way.DONE)
+            return Outcome(f"{told}, failed", call=Call(kind, Way.FAILED))
         if side is Side.LOG:
             self.go_on_with_log(phase)
-            return Outcome(f"log {phase.value}", call=call)
-        self.go_on_with_checkpoint(phase)
-        return Outcome("ckpt", Tally.SEALED if phase is Checkpoint.SEALED else None, call)
+        else:
+            self.go_on_with_checkpoint(phase)
+        tally = Tally.SEALED if phase is Checkpoint.SEALED else None
+        return Outcome(f"{told}, {phase.name}", tally, Call(kind, Way.DONE))
+
+    def told(self, kind):
+        """A device call with the number of its file."""
+        if kind.value.endswith("log") or kind in (CallKind.FRAME, CallKind.END_FRAME):
+            is_next = self.log in (Log.HEADER, Log.HEADER_WRITTEN)
+            return f"{kind.value}, file {LOGS + (self.newest + is_next) % 2}"
+        return f"{kind.value}, file {(self.sealed + 1) % 2}"
+
+    def others(self, kind, fill):
+        """How else the disk may stand behind a failed call: a checkpoint's file that had no gate may still have none."""
+        if kind is CallKind.GATE_CLOSE and fill and fill.chosen is not None:
+            other = self.copy()
+            other.other_gate = dataclasses.replace(self.other_gate, reads_open=True)
+            yield other
 
     def stop_within(self, side):
         """A stop within the next call of the side: a write counts as made, a sync as not made."""
         due = self.due(side)
         if not due:
             return SKIPPED
+        told = self.told(due[0])
         self.write(due[0], NEW)
-        return Outcome("stop", call=Call(due[0], Way.STOPPED))
+        return Outcome(f"{told}, stop", call=Call(due[0], Way.STOPPED))
 
     def write(self, kind, fill):
         """What a write of a gate leaves to be read."""
@@ -192,16 +210,17 @@ class Disk:
             self.rotates, self.log = True, Log.HEADER
         return Outcome("begin")
 
-    def capture(self, number, stripes, mark):
-        """The next stripe is captured, with this mark."""
+    def is_next(self, number, stripes):
+        """Whether the section of this stripe is the next one, and may be captured."""
         written = self.checkpoint
         is_ready = written and not self.rotates and written.phase is Checkpoint.READY
-        if not is_ready or number != written.sections or number >= len(stripes):
-            return WRONG_PHASE
-        if stripes[number].is_held:
-            return Outcome("held", Tally.BUSY)
-        self.checkpoint = Written(Checkpoint.STAGED, written.sections + 1, max(written.greatest, mark))
-        return Outcome(f"mark {mark}")
+        return is_ready and number == written.sections and number < stripes
+
+    def captured(self, mark):
+        """A section with this mark was captured."""
+        written = self.checkpoint
+        if written:
+            self.checkpoint = Written(Checkpoint.STAGED, written.sections + 1, max(written.greatest, mark))
 
     def seal(self, stripes, durable):
         """The checkpoint of so many stripes is to be sealed."""
@@ -223,8 +242,10 @@ class Disk:
                     other_gate=Gate.at_rest(other_open))
 
     def stopped(self, fill):
-        """The disk after a stop with this fill."""
-        return self.left(self.log_gate.is_left_open(fill), self.other_gate.is_left_open(fill))
+        """Each way in which a stop with this fill may leave the disk."""
+        for log_open in self.log_gate.left(fill):
+            for other_open in self.other_gate.left(fill):
+                yield self.left(log_open, other_open)
 
     def as_read(self):
         """The disk as it is read. The newest log says how long a key may be in the next life."""

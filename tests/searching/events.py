@@ -6,7 +6,6 @@ import typing
 from harness.plain import OPEN_GATE, READS
 from harness.words import request_text
 
-# A script has the workers below this number.
 WORKERS = 64
 
 
@@ -18,16 +17,33 @@ class Side(enum.Enum):
 
 @dataclasses.dataclass(frozen=True)
 class Fill:
-    """What pending bytes hold after a stop, or what is read where a write failed, as a script names it."""
+    """What pending bytes hold after a stop, or what is read where a write failed.
+
+    Chosen bytes go to the pending bytes in their order, and come with a length for each file.
+    """
     word: str
+    chosen: bytes = None
+    lengths: tuple = ()
 
     @classmethod
     def of_byte(cls, byte):
         return cls(f"{byte:02X}")
 
-    def opens(self, kept_open, reads_open):
-        """Whether it leaves a gate open, of which the last sync kept one state, and a read gives the other."""
-        return {OLD.word: kept_open, NEW.word: reads_open}.get(self.word, self == OPENS)
+    @classmethod
+    def of_bytes(cls, chosen, lengths):
+        return cls("-".join((chosen.hex(), *map(str, lengths))), chosen, lengths)
+
+    def torn_open(self, kept_open, is_open):
+        """Whether a gate reads open behind a write that was to open it, or to close it, and failed."""
+        if self.chosen is not None:
+            return self.chosen[0] == OPEN_GATE if self.chosen else is_open
+        return {OLD.word: kept_open, NEW.word: is_open}.get(self.word, self == OPENS)
+
+    def left_open(self, kept_open, reads_open):
+        """How a stop may leave a gate. Of chosen bytes it isn't looked which of them is the gate's."""
+        if self.chosen is not None:
+            return False, True
+        return (self.torn_open(kept_open, reads_open),)
 
 
 OLD, NEW, OPENS = Fill("old"), Fill("new"), Fill.of_byte(OPEN_GATE)
@@ -65,13 +81,13 @@ class Open(Event):
 
 @dataclasses.dataclass(frozen=True)
 class OfWorker(Event):
-    """An event of a worker. A script has no line for one of a worker that there isn't."""
+    """An event of a worker."""
     worker: int
     verb: typing.ClassVar[str]
 
     @property
     def line(self):
-        return f"{self.verb} {self.worker}" if self.worker < WORKERS else None
+        return f"{self.verb} {self.worker}"
 
 
 @dataclasses.dataclass(frozen=True)
@@ -86,38 +102,31 @@ class Start(OfWorker):
 
     @property
     def line(self):
-        start = super().line
-        return start and f"{start} {request_text(*self.request)}"
+        return f"{super().line} {request_text(*self.request)}"
 
 
 @dataclasses.dataclass(frozen=True)
 class Step(OfWorker):
-    """A step of a worker's walk. If it is thought to be the last, its line plays all that are left, and prints the end."""
-    is_last: bool = False
-    kind = "step"
-
-    @property
-    def verb(self):
-        return "go" if self.is_last else "step"
+    """The next step of a worker's walk."""
+    kind = verb = "step"
 
 
 @dataclasses.dataclass(frozen=True)
 class Release(OfWorker):
-    """A worker releases the reply that it holds. Its line plays all the steps of that."""
+    """A worker begins to release the reply that it holds."""
     kind = verb = "release"
 
 
 @dataclasses.dataclass(frozen=True)
 class Sweep(Event):
-    """The keeper begins a sweep, or goes on with one. Its line plays all the steps up to a held stripe."""
+    """The keeper begins a sweep, or goes on with one that found a stripe held."""
     kind = "sweep"
 
 
 @dataclasses.dataclass(frozen=True)
 class KeeperStep(Event):
-    """A step of a sweep or a capture. The line that begins these plays them, so that it has none of its own."""
+    """The next step of a sweep or a capture."""
     kind = "keeper step"
-    line = None
 
 
 @dataclasses.dataclass(frozen=True)
@@ -163,7 +172,7 @@ class Begin(Event):
 
 @dataclasses.dataclass(frozen=True)
 class Capture(Event):
-    """The capture of a stripe. Its line plays all the steps."""
+    """The capture of a stripe begins."""
     stripe: int
     kind = "capture"
 

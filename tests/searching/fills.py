@@ -1,10 +1,11 @@
-"""Random fills. A script names one byte, so of chosen bytes, which look like those of a store, it is the first one."""
+"""Random fills, among them bytes that look like those of a store."""
 from harness.files import FILES, GATE, batch, checkpoint, log_end, log_header, record
 from harness.plain import FILE_KEY_WIDTHS, Method, value_bytes
 from searching.events import NEW, OLD, OPENS, Fill
 
 CLOSED = Fill.of_byte(0)
 ALL_ONES = Fill.of_byte(0xFF)
+ALL = (1 << 64) - 1
 
 
 def random_batch(dice, first):
@@ -33,19 +34,22 @@ def random_piece(dice, tickets):
     return bytes(dice.byte() for _ in range(dice.below(40)))
 
 
-def draw_length(dice):
-    """Draws the length of a file after a stop, which a script doesn't name."""
-    kind = dice.below(4)
-    if kind >= 2:
-        dice.below(120 if kind == 2 else 4000)
+def random_length(dice):
+    """A length of a file: nothing, all, or some of it."""
+    match dice.below(4):
+        case 0:
+            return 0
+        case 1:
+            return ALL
+        case 2:
+            return dice.below(120)
+    return dice.below(4000)
 
 
 def random_choice(dice, tickets):
-    """The first of chosen bytes; where none was chosen, what a read gives is left."""
+    """Chosen bytes, and a length for each file."""
     content = b"".join([random_piece(dice, tickets) for _ in range(dice.below(5))])
-    for _ in FILES:
-        draw_length(dice)
-    return Fill.of_byte(content[0]) if content else NEW
+    return Fill.of_bytes(content, tuple(random_length(dice) for _ in FILES))
 
 
 def random_fill(dice, tickets):
@@ -63,3 +67,9 @@ def random_fill(dice, tickets):
         case 8:
             return Fill.of_byte(dice.byte())
     return random_choice(dice, tickets)
+
+
+def spelled_batch(version, first, has_gate):
+    """A batch of one put with the next ticket, and an open gate behind it; before it an open gate, or none."""
+    put = record(Method.put, "a", value_bytes(5), FILE_KEY_WIDTHS[version])
+    return Fill.of_bytes(batch(first, [put])[0 if has_gate else 1:] + GATE, (ALL,) * len(FILES))

@@ -1,20 +1,24 @@
-"""A life of the store: its stripes, its workers, and what its keeper does besides the device calls."""
+"""A life of the store: its stripes, its workers, and the walks of its keeper.
+
+A walk is a generator, whose code up to the next `yield` is one step.
+"""
 import dataclasses
 import typing
 
 from harness.plain import READS, stripe_of
 from harness.words import reply_text
 from searching.events import WORKERS
-from searching.outcomes import REFUSED, SKIPPED, Outcome, Tally
-
-NOT_YET, GIVEN_UP = Outcome("notyet", Tally.NOT_YET), Outcome("failed", Tally.GIVEN_UP)
+from searching.outcomes import REFUSED, SKIPPED, STARTED, Outcome, Tally
 
 
 @dataclasses.dataclass(frozen=True)
 class Made:
-    """A step as it is printed, and if it was the last of its walk, what that has come to."""
+    """A step, and if it was the last of its walk, what that has come to."""
     step: str
     end: Outcome = None
+
+    def outcome(self):
+        return dataclasses.replace(self.end, text=f"{self.step}, {self.end.text}") if self.end else Outcome(self.step)
 
 
 @dataclasses.dataclass(frozen=True)
@@ -41,6 +45,10 @@ class Worker:
     def see(self, position):
         self.seen = max(self.seen, position)
 
+    def begin(self, walk):
+        self.walk = walk
+        return STARTED
+
     def step(self):
         """The next step of its walk."""
         made = next(self.walk)
@@ -58,40 +66,46 @@ class Life:
         self.workers = [Worker(past.count) for _ in range(WORKERS)]
         # A FAIL was made, or a device call has failed.
         self.has_failed = self.is_broken = False
-        # The stripe that a sweep found held, and the count that it had looked at.
-        self.waiting = None
+        # The keeper's walk, and where a sweep goes on that found a stripe held, with the count that it had looked at.
+        self.walk = self.waiting = None
 
     # ---- the workers
 
+    def worker(self, number):
+        """The worker with this number; another one has nothing to do."""
+        return self.workers[number] if number < WORKERS else None
+
     def is_idle(self, number):
-        worker = self.workers[number]
-        return worker.walk is None and worker.held is None
+        worker = self.worker(number)
+        return worker and worker.walk is None and worker.held is None
 
     def start(self, number, request):
-        if not self.is_idle(number):
+        return self.workers[number].begin(self.call(self.workers[number], request)) if self.is_idle(number) else SKIPPED
+
+    def release(self, number):
+        worker = self.worker(number)
+        if not worker or worker.walk or not worker.held:
             return SKIPPED
-        self.workers[number].walk = self.call(self.workers[number], request)
-        return Outcome(f"start {number}")
+        return worker.begin(self.released(worker))
 
     def step(self, number):
-        """A step of the worker, if it is in a walk."""
-        worker = self.workers[number]
-        return worker.step() if worker.walk else None
+        worker = self.worker(number)
+        return worker.step().outcome() if worker and worker.walk else SKIPPED
 
     def call(self, worker, request):
-        """The walk of a call: what stands before each `yield` is one step."""
+        """The walk of a call."""
         number = stripe_of(request[1], len(self.stripes))
         stripe = self.stripes[number]
         if stripe.is_held:
-            yield Made("TAKE held", Outcome(f"refused 8 Busy {number}", Tally.BUSY))
+            yield Made(f"TAKE {number} held", Outcome(f"refused 8 Busy {number}", Tally.BUSY))
             return
         stripe.is_held = True
         worker.see(self.past.past_outbox(number))
-        yield Made("TAKE")
+        yield Made(f"TAKE {number}")
         if self.has_failed:
             yield Made("ALIVE no")
             stripe.is_held = False
-            yield Made("GIVE", REFUSED)
+            yield Made(f"GIVE {number}", REFUSED)
             return
         if request[0] in READS:
             # Nobody else changes the stripe.
@@ -102,7 +116,7 @@ class Life:
             yield from self.change(worker, number, request)
         stripe.is_held = False
         worker.see(worker.held.position)
-        yield Made("GIVE", Outcome(f"held {worker.held.position}"))
+        yield Made(f"GIVE {number}", Outcome(f"held {worker.held.position}"))
 
     def change(self, worker, number, request):
         """The steps of a change that draw its ticket."""
@@ -114,19 +128,27 @@ class Life:
         self.stripes[number].last = self.past.count
         yield Made(f"TICKET {ticket}")
 
-    def release(self, number):
-        """All steps of a release, which doesn't fit while another walk of the worker is under way."""
-        worker = self.workers[number]
-        held = worker.held
-        if worker.walk or not held:
-            return SKIPPED
+    def released(self, worker):
+        """The walk of a release."""
+        made = self.see(worker)
+        yield made
+        if made.end:
+            return
+        if not self.has_failed:
+            yield Made("ALIVE yes", Outcome("notyet", Tally.NOT_YET))
+            return
+        yield Made("ALIVE no")
+        made, worker.held = self.see(worker), None
+        yield made if made.end else Made(made.step, Outcome("failed", Tally.GIVEN_UP))
+
+    def see(self, worker):
+        """SEE: a reply whose position is durable is released."""
+        held, step = worker.held, f"SEE {self.durable}"
         worker.see(self.durable)
-        if held.position > self.durable and not self.has_failed:
-            return NOT_YET
-        worker.held = None
         if held.position > self.durable:
-            return GIVEN_UP
-        return Outcome(f"reply {held.position} {reply_text(*held.reply)}", Tally.RELEASED)
+            return Made(step)
+        worker.held = None
+        return Made(step, Outcome(f"reply {held.position} {reply_text(*held.reply)}", Tally.RELEASED, position=held.position))
 
     # ---- the keeper
 
@@ -134,16 +156,59 @@ class Life:
         self.has_failed = True
         return Outcome("fail")
 
+    def step_keeper(self):
+        """The next step of the keeper's walk."""
+        if self.walk is None:
+            return SKIPPED
+        made = next(self.walk)
+        if made.end:
+            self.walk = None
+        return made.outcome()
+
+    def begin_sweep(self):
+        """The first step of a sweep, or of what is left of one."""
+        self.walk = self.sweep()
+        return self.step_keeper()
+
     def sweep(self):
-        """All steps of a sweep up to a stripe that is held, from which the next one goes on."""
-        first, count = self.waiting or (0, self.past.count)
+        is_new, (first, count) = self.waiting is None, self.waiting or (0, self.past.count)
+        self.waiting = None
+        if is_new:
+            yield Made(f"LOOK {count}")
         for number, stripe in enumerate(self.stripes[first:], first):
             if stripe.is_held:
                 self.waiting = number, count
-                return Outcome(f"sweep held {number}")
+                yield Made(f"TAKE {number} held", Outcome(f"sweep held {number}"))
+                return
+            stripe.is_held = True
+            yield Made(f"TAKE {number}")
+            stripe.is_held = False
             self.past.take_in_hand(number)
-        self.waiting = None
-        return Outcome(f"sweep {count}")
+            is_last = number + 1 == len(self.stripes)
+            yield Made(f"GIVE {number}", Outcome(f"sweep {count}") if is_last else None)
+
+    def capture_finds(self, number):
+        """What the first step of a capture of the stripe finds."""
+        if self.stripes[number].is_held:
+            return Made(f"TAKE {number} held", Outcome(f"refused 8 Busy {number}", Tally.BUSY)).outcome()
+        return Made(f"TAKE {number}").outcome()
+
+    def begin_capture(self, number):
+        """The first step of a capture."""
+        self.walk = self.capture(number)
+        return self.step_keeper()
+
+    def capture(self, number):
+        stripe = self.stripes[number]
+        if stripe.is_held:
+            yield Made(f"TAKE {number} held", Outcome(f"refused 8 Busy {number}", Tally.BUSY))
+            return
+        stripe.is_held = True
+        yield Made(f"TAKE {number}")
+        mark = self.past.count
+        yield Made(f"LOOK {mark}")
+        stripe.is_held = False
+        yield Made(f"GIVE {number}", Outcome(f"mark {mark}", mark=mark))
 
     def publish(self, committed):
         """The count of the committed changes is published."""

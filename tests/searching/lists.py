@@ -107,7 +107,7 @@ class Maker:
         hand = self.hands[worker]
         if hand.left:
             hand.left -= 1
-            return Step(worker, is_last=not hand.left)
+            return Step(worker)
         if hand.reply is Reply.DURABLE:
             hand.begin(1, Reply.NONE)
             return Release(worker)

@@ -18,6 +18,7 @@ class CallKind(enum.Enum):
     CHECKPOINT_HEADER = "header of a checkpoint"
     SEAL_GATE = "gate of a checkpoint"
     CHECKPOINT_SYNC = "sync of a checkpoint"
+    UNKNOWN = "unknown call"
 
 
 class Way(enum.Enum):
@@ -51,14 +52,17 @@ class Tally(enum.Enum):
 
 @dataclasses.dataclass(frozen=True)
 class Outcome:
-    """What the line of an event is to print, the device call that it makes, and what else is counted."""
+    """What came of an event: its text, what is counted, the device call, a position that is told, and the mark of a capture."""
     text: str
     tally: Tally = None
     call: Call = None
+    position: int = None
+    mark: int = None
 
 
 CALL_FAILED = f"refused {FAILED} Failed"
 SKIPPED = Outcome("skipped")
+STARTED = Outcome("start")
 REFUSED = Outcome(CALL_FAILED, Tally.FAILED)
 WRONG_PHASE = Outcome("refused 16 WrongPhase", Tally.WRONG_PHASE)
 TOO_EARLY = Outcome("refused 17 TooEarly", Tally.TOO_EARLY)

@@ -1,148 +1,198 @@
 """The second reading: what is wanted of each event, by the rules read plainly.
 
-docs/SCRIPTS.md has what an event prints. Nothing here is taken from the program.
+Behind a stop with chosen bytes there is more than one guess of how the disk stands, and what comes of later events tells
+which is right.
 """
-import dataclasses
+import re
 
 from harness.plain import READS
+from harness.words import word_of
 from searching.disk import Disk
-from searching.events import (Begin, Capture, Fail, Leave, Old, Open, Publish, Release, Seal, Stage, Start, Step, Stop,
-                              Sweep)
+from searching.events import (Begin, Capture, Device, Fail, KeeperStep, Leave, Old, Open, Publish, Release, Seal, Stage,
+                              Start, Step, Stop, Sweep)
 from searching.life import Life
-from searching.outcomes import CALL_FAILED, LONG_KEY, REFUSED, SKIPPED, Outcome, Tally, Way
+from searching.outcomes import LONG_KEY, REFUSED, SKIPPED, WRONG_PHASE, Outcome, Tally, Way
 from searching.past import Past
 
-# An opening syncs the four files, and looks at the heads of both checkpoints, at the one that is used in three calls, at
-# its log in two, and at the gate of the other checkpoint. No file of a list has more bytes than one of these calls reads.
-OPENING_CALLS, NEXT_LOG_CALLS = 12, 2
-NOT_OPENED = Outcome(CALL_FAILED, Tally.NOT_OPENED)
+OPENED = re.compile(r"open (\d+) calls (\d+)\b.*")
+NOT_OPENED = re.compile(r"not opened (\d+) calls")
 
 
 class Reading:
     """What is known of a schedule so far."""
 
     def __init__(self):
-        self.past, self.disk = Past(), Disk()
+        self.past = Past()
+        # How the disk may stand: at least one guess is right.
+        self.disks = [Disk()]
         # The life that goes on, if one does.
         self.life = None
         # The greatest position of a released reply.
         self.released = 0
         self.is_first = True
 
-    def wanted(self, event):
-        """What is wanted of the event."""
+    @property
+    def committed(self):
+        """How many changes are committed in this life, on which all guesses agree."""
+        return self.disks[0].committed
+
+    def wanted(self, event, found):
+        """What is wanted of the event, of which this was found."""
         is_first, self.is_first = self.is_first, False
         match event:
             case Old() if is_first:
-                self.disk.is_old = True
+                for disk in self.disks:
+                    disk.is_old = True
                 return Outcome("old")
             case Open() if not self.life:
-                return self.open(event)
+                return self.open(event, found)
             case Stop(side=None):
-                return self.stop(event.fill)
-            case _ if not self.life or event.line is None:
+                self.stop(event.fill)
+                return Outcome("stop")
+            case _ if not self.life:
                 return SKIPPED
             case Leave():
                 self.life = None
                 return Outcome("leave")
             case Start():
-                return self.start(event)
+                return self.start(event, found)
             case Step():
                 return self.step(event)
             case Release():
-                return self.release(event.worker)
-            case Sweep():
-                return self.life.sweep()
-            case Publish():
-                return self.life.publish(self.disk.committed)
-            case Fail():
-                return self.life.fail()
-        return self.write(event)
+                return self.life.release(event.worker)
+            case KeeperStep():
+                return self.step_keeper()
+            case _ if self.life.walk or isinstance(event, (Old, Open)):
+                return SKIPPED
+        return self.keep(event, found)
+
+    def choose(self, decide, found):
+        """The disk decides. The guesses that are left are those by which this was to be found."""
+        left, outcome = [], None
+        for disk in self.disks:
+            decided = decide(disk)
+            if decided.text == found:
+                outcome = decided
+                left.append(disk)
+        if not left:
+            return decided
+        self.disks = left
+        return outcome
 
     # ---- between lives
 
     def stop(self, fill):
         """The machine has stopped, and the fill decides what is left."""
-        self.life, self.disk = None, self.disk.stopped(fill)
-        return Outcome("stop")
+        self.life = None
+        left = []
+        for disk in (it for disk in self.disks for it in disk.stopped(fill)):
+            if disk not in left:
+                left.append(disk)
+        self.disks = left
 
-    def open(self, event):
-        """An opening, whose failing call is met or isn't. It reads a second log if one follows that of the checkpoint."""
-        read, fails_at = self.disk.as_read(), event.fails_at or 0
-        if 0 < fails_at <= OPENING_CALLS + (NEXT_LOG_CALLS if read.newest > read.sealed else 0):
-            self.disk.sync_below(fails_at - 1)
-            return NOT_OPENED
-        if not self.released <= read.committed <= self.past.count:
-            return Outcome(f"open with {self.released} to {self.past.count} changes, but {read.committed} are committed")
-        self.disk = read
-        self.past.cut(read.committed)
-        self.life = Life(self.past, event.stripes)
-        return Outcome(f"open {read.committed} {len(self.past.map.entries)}", Tally.OPENED)
+    def open(self, event, found):
+        """An opening, whose failing call is met or isn't."""
+        fails_at = event.fails_at or 0
+        if met := NOT_OPENED.fullmatch(found):
+            if int(met[1]) != fails_at:
+                return Outcome(f"an opening, or a failure of call {fails_at}")
+            for disk in self.disks:
+                disk.sync_below(fails_at - 1)
+            return Outcome(found, Tally.NOT_OPENED)
+        opened = OPENED.fullmatch(found)
+        if not opened:
+            return Outcome("an opening")
+        calls, prefix = map(int, opened.groups())
+        if 0 < fails_at <= calls:
+            return Outcome("no opening past its failing call")
+        return self.opened(event.stripes, calls, prefix)
+
+    def opened(self, stripes, calls, prefix):
+        """The store was opened with so many changes."""
+        if not self.released <= prefix <= self.past.count:
+            return Outcome(f"a prefix from {self.released} to {self.past.count}")
+        reads = [disk.as_read() for disk in self.disks]
+        self.disks = [disk for disk in reads if disk.committed == prefix]
+        if not self.disks:
+            return Outcome(f"prefix {reads[0].committed}")
+        self.past.cut(prefix)
+        self.life = Life(self.past, stripes)
+        return Outcome(f"open {calls} calls {prefix}{entries_text(self.past.map.entries)}", Tally.OPENED)
 
     # ---- the workers
 
-    def start(self, event):
-        method, key, _ = event.request
-        if self.life.is_idle(event.worker) and method not in READS and len(key.encode()) > self.disk.key_limit:
-            return of_worker(event.worker, LONG_KEY)
-        return self.life.start(event.worker, event.request)
+    def start(self, event, found):
+        """Of a change the newest log decides how long its key may be."""
+        (method, key, _), length = event.request, len(event.request[1].encode())
+        if method in READS or not self.life.is_idle(event.worker):
+            return self.life.start(event.worker, event.request)
+        decided = self.choose(lambda disk: LONG_KEY if length > disk.key_limit else Outcome("start"), found)
+        return decided if decided is LONG_KEY else self.life.start(event.worker, event.request)
 
     def step(self, event):
-        """One step, or all that are left of a walk."""
-        made = self.life.step(event.worker)
-        if made is None:
-            return SKIPPED
-        if not event.is_last:
-            return Outcome(f"{event.worker} {made.step}", made.end and made.end.tally)
-        while not made.end:
-            made = self.life.step(event.worker)
-        return of_worker(event.worker, made.end)
-
-    def release(self, worker):
         """A reply is released at a position that is committed."""
-        held = self.life.workers[worker].held
-        outcome = self.life.release(worker)
-        if outcome.tally is not Tally.RELEASED:
-            return of_worker(worker, outcome)
-        if held.position > self.disk.committed:
-            return Outcome(f"no reply at {held.position}, as {self.disk.committed} changes are committed")
-        self.released = max(self.released, held.position)
-        return of_worker(worker, outcome)
+        outcome = self.life.step(event.worker)
+        if outcome.tally is Tally.RELEASED:
+            if outcome.position > self.committed:
+                return Outcome(f"no reply at {outcome.position}, as {self.committed} changes are committed")
+            self.released = max(self.released, outcome.position)
+        return outcome
 
     # ---- the keeper
 
-    def write(self, event):
-        """What the keeper does with the files; a device failure ends that."""
-        life, disk = self.life, self.disk
-        if isinstance(event, (Old, Open)) or life.is_broken and isinstance(event, Stop):
-            return SKIPPED
-        if life.is_broken:
-            return REFUSED
+    def step_keeper(self):
+        outcome = self.life.step_keeper()
+        if outcome.mark is not None:
+            for disk in self.disks:
+                disk.captured(outcome.mark)
+        return outcome
+
+    def keep(self, event, found):
+        """What the keeper does between its walks; a device failure ends what it does with the files."""
+        match event:
+            case Sweep():
+                return self.life.begin_sweep()
+            case Publish():
+                return self.life.publish(self.committed)
+            case Fail():
+                return self.life.fail()
+        if self.life.is_broken:
+            return SKIPPED if isinstance(event, Stop) else REFUSED
+        return self.write(event, found)
+
+    def write(self, event, found):
+        life = self.life
         match event:
             case Stage():
-                return disk.stage(self.past.run_from(disk.committed, event.most))
+                run = self.past.run_from(self.committed, event.most)
+                return self.choose(lambda disk: disk.stage(run), found)
             case Begin():
-                return disk.begin()
-            case Capture():
-                return disk.capture(event.stripe, life.stripes, self.past.count)
+                return self.choose(Disk.begin, found)
             case Seal():
-                return disk.seal(len(life.stripes), life.durable)
-            case Stop():
-                return self.stop_within(event)
-        return self.device(event)
-
-    def stop_within(self, event):
-        outcome = self.disk.stop_within(event.side)
-        if outcome is not SKIPPED:
+                return self.choose(lambda disk: disk.seal(len(life.stripes), life.durable), found)
+            case Capture():
+                return self.capture(event.stripe, found)
+            case Device():
+                return self.device(event, found)
+        outcome = self.choose(lambda disk: disk.stop_within(event.side), found)
+        if outcome is not SKIPPED and outcome.text == found:
             self.stop(event.fill)
         return outcome
 
-    def device(self, event):
-        outcome = self.disk.device(event.side, event.fill)
-        self.life.is_broken = bool(outcome.call) and outcome.call.way is Way.FAILED
+    def capture(self, stripe, found):
+        stripes = len(self.life.stripes)
+        finds = self.life.capture_finds(stripe) if stripe < stripes else WRONG_PHASE
+        outcome = self.choose(lambda disk: finds if disk.is_next(stripe, stripes) else WRONG_PHASE, found)
+        return outcome if outcome is WRONG_PHASE or outcome.text != found else self.life.begin_capture(stripe)
+
+    def device(self, event, found):
+        outcome = self.choose(lambda disk: disk.device(event.side, event.fill), found)
+        if outcome.call and outcome.call.way is Way.FAILED:
+            self.life.is_broken = True
+            self.disks += [other for disk in self.disks for other in disk.others(outcome.call.kind, event.fill)]
         return outcome
 
 
-def of_worker(worker, outcome):
-    """The outcome as it is printed of a worker."""
-    return outcome if outcome is SKIPPED else dataclasses.replace(outcome, text=f"{worker} {outcome.text}")
+def entries_text(entries):
+    """The entries in rising order of their keys' bytes."""
+    return "".join(f" {key}={word_of(entries[key])}" for key in sorted(entries, key=str.encode))
