@@ -12,7 +12,8 @@ from searching.events import (Begin, Capture, Device, Fail, KeeperStep, Leave, O
 from searching.fills import random_fill
 from searching.stories import Story
 
-MOST_HANDS = 8
+# The workers of a list, and the numbers that any event may name, some of them above those of a script.
+MOST_HANDS, MOST_WORKERS = 8, 70
 # About how many device calls come before one that fails or is stopped within.
 DANGERS = (12, 40, 100, 300)
 STRIPES = (1, 4, 16)
@@ -156,12 +157,8 @@ class Maker:
     # ---- any event, whether it fits or not
 
     def any_event(self):
-        worker = self.dice.below(70) if self.dice.one_in(10) else self.random_worker()
-        kind = self.dice.below(50)
-        for end, make in self.ANY:
-            if kind < end:
-                return make(self, worker)
-        return self.rarely(3, Old(), worker)
+        worker = self.dice.below(MOST_WORKERS) if self.dice.one_in(10) else self.random_worker()
+        return self.dice.pick(self.ANY)(self, worker)
 
     def any_stop(self, _):
         return self.stop(None if self.dice.one_in(3) else self.random_side())
@@ -205,22 +202,24 @@ class Maker:
     def stop(self, side=None):
         return Stop(side, self.fill())
 
-    # What any event may be, with the end of the numbers that stand for it; it is given a worker.
-    ANY = (
+    # What any event may be, which is given a worker, and how often.
+    WEIGHTS = (
         (1, opening),
-        (2, any_stop),
-        (3, lambda self, worker: self.rarely(3, Leave(), worker)),
-        (4, lambda self, worker: self.rarely(2, Fail(), worker)),
-        (10, change),
-        (14, read),
-        (20, lambda self, worker: Step(worker)),
-        (25, lambda self, worker: Release(worker)),
-        (29, lambda self, worker: Sweep()),
-        (31, lambda self, worker: KeeperStep()),
-        (35, stage),
-        (41, any_device),
-        (43, lambda self, worker: Publish()),
-        (45, lambda self, worker: Begin()),
-        (48, lambda self, worker: Capture(self.dice.below(self.stripes + 1))),
-        (49, lambda self, worker: Seal()),
+        (1, any_stop),
+        (1, lambda self, worker: self.rarely(3, Leave(), worker)),
+        (1, lambda self, worker: self.rarely(2, Fail(), worker)),
+        (6, change),
+        (4, read),
+        (6, lambda self, worker: Step(worker)),
+        (5, lambda self, worker: Release(worker)),
+        (4, lambda self, worker: Sweep()),
+        (2, lambda self, worker: KeeperStep()),
+        (4, stage),
+        (6, any_device),
+        (2, lambda self, worker: Publish()),
+        (2, lambda self, worker: Begin()),
+        (3, lambda self, worker: Capture(self.dice.below(self.stripes + 1))),
+        (1, lambda self, worker: Seal()),
+        (1, lambda self, worker: self.rarely(3, Old(), worker)),
     )
+    ANY = [make for times, make in WEIGHTS for _ in range(times)]
