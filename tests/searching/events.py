@@ -126,7 +126,7 @@ class Sweep(Event):
 @dataclasses.dataclass(frozen=True)
 class KeeperStep(Event):
     """The next step of a sweep or a capture."""
-    kind = "keeper step"
+    kind, line = "keeper step", "keep"
 
 
 @dataclasses.dataclass(frozen=True)

@@ -52,7 +52,7 @@ class Tally(enum.Enum):
 
 @dataclasses.dataclass(frozen=True)
 class Outcome:
-    """What came of an event: its text, what is counted, the device call, a position that is told, and the mark of a capture."""
+    """What came of an event: its text, what is counted, the device call, a released position, and the mark of a capture."""
     text: str
     tally: Tally = None
     call: Call = None

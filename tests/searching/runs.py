@@ -2,8 +2,8 @@
 import dataclasses
 
 from harness.plain import Method
-from searching.events import (NEW, OLD, OPENS, Begin, Capture, Device, Fill, KeeperStep, Old, Open, Publish, Release, Seal, Side, Stage,
-                              Start, Step, Stop, Sweep)
+from searching.events import (NEW, OLD, OPENS, Begin, Capture, Device, Fill, KeeperStep, Old, Open, Publish, Release,
+                              Seal, Side, Stage, Start, Step, Stop, Sweep)
 from searching.fills import spelled_batch
 
 KEYS = ("a", "b", "c")
