@@ -23,17 +23,17 @@ class Log(enum.Enum):
 
 
 class Checkpoint(enum.Enum):
-    """What the checkpoint's writer has done last, or is to do next."""
-    GATE = enum.auto()
-    GATE_WRITTEN = enum.auto()
-    GATE_SYNCED = enum.auto()
-    READY = enum.auto()
-    STAGED = enum.auto()
-    HEADER = enum.auto()
-    HEADER_WRITTEN = enum.auto()
-    HEADER_SYNCED = enum.auto()
-    OPENED = enum.auto()
-    SEALED = enum.auto()
+    """What the checkpoint's writer has done last, or is to do next, as it is printed."""
+    GATE = "Gate"
+    GATE_WRITTEN = "GateWritten"
+    GATE_SYNCED = "GateSynced"
+    READY = "Ready"
+    STAGED = "Staged"
+    HEADER = "Header"
+    HEADER_WRITTEN = "HeaderWritten"
+    HEADER_SYNCED = "HeaderSynced"
+    OPENED = "Opened"
+    SEALED = "Sealed"
 
 
 # Of each phase the device call that is due, and the phase behind it.
@@ -134,7 +134,7 @@ class Disk:
         else:
             self.go_on_with_checkpoint(phase)
         tally = Tally.SEALED if phase is Checkpoint.SEALED else None
-        return Outcome(f"{told}, {phase.name}", tally, Call(kind, Way.DONE))
+        return Outcome(f"{told}, {phase.value}", tally, Call(kind, Way.DONE))
 
     def told(self, kind):
         """A device call with the number of its file."""

@@ -1,4 +1,4 @@
-"""The events of a list, and the lines of a script that play them."""
+"""The events of a list, and the line that plays each."""
 import dataclasses
 import enum
 import typing
@@ -31,7 +31,7 @@ class Fill:
 
     @classmethod
     def of_bytes(cls, chosen, lengths):
-        return cls("-".join((chosen.hex(), *map(str, lengths))), chosen, lengths)
+        return cls("-".join((chosen.hex().upper(), *map(str, lengths))), chosen, lengths)
 
     def torn_open(self, kept_open, is_open):
         """Whether a gate reads open behind a write that was to open it, or to close it, and failed."""
@@ -56,7 +56,7 @@ class Event:
 
     @property
     def line(self):
-        """The line of a script that plays it, or None."""
+        """The line that plays it."""
         return self.kind
 
 
