@@ -117,13 +117,13 @@ def run_program(program, *words, given=None, text=True, seconds=RUN_SECONDS, **o
     return ended.returncode, ended.stdout, ended.stderr
 
 
-def play_script(program, lines):
-    """What `dchm sim` prints behind the numbers of these lines; else its status, and why."""
+def play_script(program, lines, words=("sim",)):
+    """What `dchm sim`, or another program, prints behind the numbers of these lines; else its status, and why."""
     with temporary_directory() as room:
         path = os.path.join(room, "script")
         with open(path, "w", encoding="utf-8") as script:
             script.writelines(line + "\n" for line in lines)
-        status, printed, said = run_program(program, "sim", path)
+        status, printed, said = run_program(program, *words, path)
     return [line.partition(" ")[2] for line in printed.splitlines()] if status == 0 else [f"status {status}: {said}"]
 
 
