@@ -6,6 +6,7 @@ use crate::client::{Client, Line};
 use crate::errands::Errand;
 use crate::observer::Observer;
 use crate::pool::Pool;
+use crate::spares::Spares;
 use crate::streams::Stream;
 use crate::tally::Tally;
 use crate::turns::{Turned, Turns};
@@ -13,7 +14,7 @@ use connections::{Calls, Resting};
 use crossbeam_channel::{Receiver, Sender, TryRecvError};
 use disk_model::Disk;
 use durable_map::DurableMap;
-use mio::{Interest, Poll, Token};
+use mio::{Events, Interest, Poll, Token};
 use slab::Slab;
 use std::alloc::{AllocError, Global};
 use std::collections::VecDeque;
@@ -32,6 +33,26 @@ pub struct Seat {
     /// Where it leaves its errands, and where they come back.
     pub(crate) errands: Sender<Errand, Global>,
     pub(crate) back: Receiver<Errand, Global>,
+}
+
+/// The most sockets that one wait reports.
+const MOST_EVENTS: usize = 1024;
+
+/// The memory that a worker has from before it starts, so that it can't fail to start for want of it.
+#[derive(Drop)]
+pub(crate) struct Stock {
+    pub(crate) spares: Spares,
+    /// Room for what a wait reports.
+    pub(crate) events: Events<Global>,
+}
+
+impl Stock {
+    pub(crate) fn new(alloc: Global) -> Result<Stock, AllocError> {
+        Ok(Stock {
+            spares: Spares::new(alloc)?,
+            events: Events::with_capacity(alloc, MOST_EVENTS)?,
+        })
+    }
 }
 
 /// A worker at its seat, with its clients.
@@ -73,14 +94,14 @@ impl<'a, D: Disk + Drop, R: Clock + Wait, C: Calls<Held = Begun> + Drop> Desk<'a
         pool: &'a Pool<'a, D, O>,
         bell: &'a Bell,
         seat: Seat,
-        calls: C,
-    ) -> Result<Desk<'a, D, R, C>, AllocError> {
+        turns: Turns<C>,
+    ) -> Desk<'a, D, R, C> {
         let alloc = pool.alloc;
         let limit = match pool.idle_seconds {
             0 => None,
             seconds => Some(Duration::from_secs(u64::from(seconds))),
         };
-        Ok(Desk {
+        Desk {
             rt,
             alloc,
             map: pool.map,
@@ -89,7 +110,7 @@ impl<'a, D: Disk + Drop, R: Clock + Wait, C: Calls<Held = Begun> + Drop> Desk<'a
             bell,
             bells: pool.bells,
             open: pool.open,
-            turns: Turns::new(alloc, calls)?,
+            turns,
             clients: Slab::new(alloc),
             queue: VecDeque::new(alloc),
             bulks: VecDeque::new(alloc),
@@ -99,7 +120,7 @@ impl<'a, D: Disk + Drop, R: Clock + Wait, C: Calls<Held = Begun> + Drop> Desk<'a
             looks: 0,
             limit,
             next_sweep: None,
-        })
+        }
     }
 
     /// The time, if it is of interest.

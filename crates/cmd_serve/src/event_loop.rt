@@ -7,14 +7,11 @@ use connections::Calls;
 use disk_model::Disk;
 use mio::event::Event;
 use mio::{Events, Token};
-use std::alloc::{AllocError, Global};
+use std::alloc::Global;
 use std::mem;
 use std::sync::Wait;
 use std::time::{Clock, Duration, Instant};
 use ticket_order::Position;
-
-/// The most sockets that one wait reports.
-const MOST_EVENTS: usize = 1024;
 
 /// How often a worker looks at most whether clients come whose changes share the next batch. That takes
 /// about a tenth of a millisecond.
@@ -233,9 +230,4 @@ impl<'a, D: Disk + Drop, R: Clock + Wait, C: Calls<Held = Begun> + Drop> Desk<'a
         }
         unreachable!()
     }
-}
-
-/// Room for what a wait reports.
-pub(crate) fn room_for_events(alloc: Global) -> Result<Events<Global>, AllocError> {
-    Events::with_capacity(alloc, MOST_EVENTS)
 }

@@ -3,13 +3,13 @@ ghost use Rattle.std.specs.Prelude.{◌≡◌, IfErr};
 
 use crate::begun::Begun;
 use crate::bells::Bell;
-use crate::desk::{Desk, Seat};
+use crate::desk::{Desk, Seat, Stock};
 use crate::errands::{Office, run_errands};
-use crate::event_loop::room_for_events;
 use crate::observer::Observer;
 use crate::seats::{Doors, Furniture};
 use crate::service::Service;
 use crate::streams::Stream;
+use crate::turns::Turns;
 use crate::worker::Worker;
 use connections::Calls;
 use disk_model::Disk;
@@ -50,7 +50,7 @@ pub(crate) struct Pool<'a, D: Disk + Drop, O: Observer> {
 #[derive(Drop)]
 enum Job {
     /// It serves clients.
-    Serve(Seat),
+    Serve(Seat, Stock),
     /// It answers the requests of the whole map.
     Answer(Office),
 }
@@ -59,7 +59,7 @@ impl Job {
     /// The number of its worker. The last one answers the requests of the whole map.
     fn place(&self) -> usize {
         match self {
-            Job::Serve(seat) => seat.place,
+            Job::Serve(seat, _) => seat.place,
             Job::Answer(office) => office.ways_back.len(),
         }
     }
@@ -70,17 +70,16 @@ fn serve_at<'a, D: Disk + Drop, O: Observer, R: Clock + Wait, C: Calls<Held = Be
     rt: &'a R,
     pool: &'a Pool<'a, D, O>,
     seat: Seat,
+    stock: Stock,
     calls: C,
 ) {
     let Some(bell) = pool.bells.get(seat.place) else {
         return;
     };
-    let Ok(mut desk) = Desk::new(rt, pool, bell, seat, calls) else {
-        return;
-    };
-    if let Ok(mut events) = room_for_events(pool.alloc) {
-        desk.serve(&mut events);
-    }
+    let Stock { spares, events } = stock;
+    let mut events = events;
+    let mut desk = Desk::new(rt, pool, bell, seat, Turns::new(pool.alloc, calls, spares));
+    desk.serve(&mut events);
 }
 
 /// Does a job with these calls.
@@ -91,7 +90,7 @@ fn do_job_with<'a, D: Disk + Drop, O: Observer, R: Clock + Wait, C: Calls<Held =
     calls: C,
 ) {
     match job {
-        Job::Serve(seat) => serve_at(rt, pool, seat, calls),
+        Job::Serve(seat, stock) => serve_at(rt, pool, seat, stock, calls),
         Job::Answer(office) => {
             let mut calls = calls;
             run_errands(rt, pool.alloc, &mut calls, &office, pool.bells);
@@ -173,10 +172,10 @@ fn employ<
         let mut has_started = scope
             .spawn(move || work(rt, pool, Job::Answer(office)))
             .is_ok();
-        for seat in seats {
+        for (seat, stock) in seats {
             if has_started {
                 has_started = scope
-                    .spawn(move || work(rt, pool, Job::Serve(seat)))
+                    .spawn(move || work(rt, pool, Job::Serve(seat, stock)))
                     .is_ok();
             }
         }

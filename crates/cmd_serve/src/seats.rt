@@ -1,7 +1,7 @@
 //! The seats of the workers, and the doors by which connections come to them.
 
 use crate::bells::Bell;
-use crate::desk::Seat;
+use crate::desk::{Seat, Stock};
 use crate::errands::{Errand, Office};
 use crate::streams::Stream;
 use crossbeam_channel::{Sender, bounded};
@@ -136,7 +136,7 @@ impl Doors {
 /// What the threads of the workers are handed as they start.
 #[derive(Drop)]
 pub struct Furniture {
-    pub(crate) seats: Vec<Seat>,
+    pub(crate) seats: Vec<(Seat, Stock)>,
     pub(crate) office: Office,
     pub(crate) doors: Doors,
 }
@@ -158,7 +158,7 @@ impl Furniture {
             errands: errands.clone()?,
             back,
         };
-        self.seats.push(seat)?;
+        self.seats.push((seat, Stock::new(alloc)?))?;
         self.doors.senders.push(door)?;
         self.office.ways_back.push(way_back)?;
         Ok(())
@@ -172,8 +172,8 @@ fn poll_and_bell<R: Net>(rt: &R) -> io::Result<(Poll, Bell)> {
     Ok((poll, bell))
 }
 
-/// Seats for so many workers, and their bells. If the system refuses what one waits with, there are no
-/// more, and the log has a record of it.
+/// Seats for so many workers, with the memory that they need to start, and their bells. If the system
+/// refuses what one waits with, there are no more, and the log has a record of it.
 pub fn furnish<R: Log + Net>(
     rt: &R,
     alloc: Global,

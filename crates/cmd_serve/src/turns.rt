@@ -6,7 +6,7 @@ use crate::begun::Begun;
 use crate::client::Line;
 use crate::spares::Spares;
 use connections::{Answered, Calls, Connection, Resting};
-use std::alloc::{AllocError, Global};
+use std::alloc::Global;
 use std::collections::VecDeque;
 use std::marker::Model;
 use std::time::Instant;
@@ -119,13 +119,14 @@ fn first_with<C: Calls<Held = Begun>>(
 }
 
 impl<C: Calls<Held = Begun> + Drop> Turns<C> {
-    pub(crate) fn new(alloc: Global, calls: C) -> Result<Turns<C>, AllocError> {
-        Ok(Turns {
+    /// No connection waits. What connections are lent comes of these spares.
+    pub(crate) fn new(alloc: Global, calls: C, spares: Spares) -> Turns<C> {
+        Turns {
             calls,
             waiting: VecDeque::new(alloc),
-            spares: Spares::new(alloc)?,
+            spares,
             first: None,
-        })
+        }
     }
 
     /// How many connections wait.
