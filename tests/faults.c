@@ -12,8 +12,9 @@
  *                    half of the bytes are moved (a sync is made) and it fails with EIO
  *   FAULT_MEMORY     n, if one allocation in n is refused, once `begun` isn't 0
  *   FAULT_SEED       which ones
- *   FAULT_NUMBER     the number of the one allocation that is refused, from 1; those count that are made between the
- *                    lines `begin` and `end` that the program writes to standard output, each in one call
+ *   FAULT_NUMBER     the number of the one allocation that is refused, from 1, once `begun` isn't 0. The line `begin`
+ *                    that the program writes to standard output sets it, in one call; the line `end`, or one that
+ *                    begins with `listening `, sets it to 0
  */
 #define _GNU_SOURCE
 #include <dlfcn.h>
@@ -177,16 +178,16 @@ static ssize_t move_out(int fd, const void *bytes, size_t length) {
     MOVES(WRITE, REAL(write)(fd, bytes, length));
 }
 
-/* Whether allocations count by lines of the program, and this is that line. */
-static int is_line(const char *line, int fd, const void *bytes, size_t length) {
-    return refused_one && fd == STDOUT_FILENO && length == strlen(line) && !memcmp(bytes, line, length);
+/* Whether allocations count by lines of the program, and this one begins so. */
+static int begins_with(const char *start, int fd, const void *bytes, size_t length) {
+    return refused_one && fd == STDOUT_FILENO && length >= strlen(start) && !memcmp(bytes, start, strlen(start));
 }
 
 ssize_t write(int fd, const void *bytes, size_t length) {
-    if (is_line("end\n", fd, bytes, length))
+    if (begins_with("end\n", fd, bytes, length) || begins_with("listening ", fd, bytes, length))
         __atomic_store_n(&page->begun, 0, __ATOMIC_SEQ_CST);
     ssize_t done = move_out(fd, bytes, length);
-    if (is_line("begin\n", fd, bytes, length))
+    if (begins_with("begin\n", fd, bytes, length))
         __atomic_store_n(&page->begun, 1, __ATOMIC_SEQ_CST);
     return done;
 }
