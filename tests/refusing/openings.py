@@ -1,23 +1,30 @@
 """The cases of directories that are opened and formatted, while a request of the program for memory is refused."""
+import contextlib
+import functools
 import subprocess
 
 from harness import opening, plain
+from harness.faulty import NEVER, NOW, ONCE_IT_LISTENS
 from harness.places import read
-from harness.servers import first_line, free_port, kill, process, run_program
+from harness.plain import Method
+from harness.servers import Connection, Dchm, dchm, first_line, free_port, kill, process, run_program
 from refusing.cases import Store
 from refusing.directories import OLD_VERSION, VERSION, first_files, later_files
 from refusing.rooms import Kind, Told, refuse_in_turn
-from refusing.served import ask_anew, reads_of, replies_of, serve
+from refusing.served import ask_anew, reads_of, replies_of, serve, stream_of
 
 NO_MEMORY = "refused 7 NoMemory"
 # What is said if there is no memory for the words of the program.
 NO_WORDS = "Error: Kind(OutOfMemory)"
 REFUSED = 1
+# What each client of a server asks that starts its threads, and how many there are then.
+FIRST = (Method.count, None, ())
+CLIENTS = 9
 END_SECONDS = 60
 
 
 def files_of(case):
-    if case.word == "open":
+    if case.word in ("open", "start"):
         return first_files(case.state, case.stripes)
     return later_files(OLD_VERSION if case.word == "open_old" else VERSION, case.state)
 
@@ -34,7 +41,7 @@ def served(room, case, number):
     """What a server replies to the reads of the case, if it listens; and else what is wrong with its end."""
     port, errors = free_port(), room.directory + ".errors"
     words = [room.program, "serve", room.directory, "--port", str(port), "--stripes", str(case.stripes)]
-    with open(errors, "wb"), process(words, errors, environment=room.environment(number, True)) as child:
+    with open(errors, "wb"), process(words, errors, environment=room.environment(number, NOW)) as child:
         if first_line(child) == b"listening %d\n" % port:
             reads = ask_anew(port, reads_of(case))
             kill(child)
@@ -80,7 +87,7 @@ def check_once(room, case, number):
     """The same of `dchm check`, which has no line of that."""
     before = files_of(case)
     room.make(before)
-    came = run_program(room.program, "check", room.directory, env=room.environment(number, True))
+    came = run_program(room.program, "check", room.directory, env=room.environment(number, NOW))
     changed = None if room.files() == before else "files were changed"
     if came[:2] == (0, opening.checked(list(before.values()))):
         return Kind.SERVED, changed
@@ -96,7 +103,7 @@ def init_once(room, case, number):
     room.make({})
     words = ("init", room.directory, "--stripes", str(case.stripes))
     formatted = 0, f"formatted {case.stripes}\n", ""
-    came = run_program(room.program, *words, env=room.environment(number, True))
+    came = run_program(room.program, *words, env=room.environment(number, NOW))
     kind, faults = Kind.SERVED, []
     if came != formatted:
         kind = Kind.REFUSED
@@ -106,6 +113,36 @@ def init_once(room, case, number):
     wanted = {"ckpt-a": 36 + 12 * case.stripes, "ckpt-b": 0, "log-a": 18, "log-b": 0}
     faults.append(None if lengths(room) == wanted else f"at the end {lengths(room)}, not {wanted}")
     return kind, "; ".join(filter(None, faults))
+
+
+def fault_of_server(room, port, child, wanted):
+    """What is wrong with a server that starts its threads, and with its end if it has ended.
+
+    What its first client is told is told in time, and later ones are served.
+    """
+    try:
+        ask_anew(port, [FIRST])
+        room.page.refuse_memory(NEVER)
+        with contextlib.ExitStack() as stack:
+            clients = [stack.enter_context(contextlib.closing(Connection(Dchm, port))) for _ in range(CLIENTS)]
+            replies = [client.exchange(stream_of([FIRST])) for client in clients]
+    except ConnectionError:
+        return fault_of_refusal(child.wait(END_SECONDS), "", read(room.directory + ".errors"))
+    return None if set(replies) == {wanted} else f"replies {[reply.hex() for reply in replies]}, not {wanted.hex()}"
+
+
+def start_once(room, case, number, workers):
+    """A server that is refused a request behind the line that says that it listens, as it starts its threads."""
+    before, wanted = files_of(case), replies_of(Store(case).map.entries, [FIRST])
+    room.make(before)
+    environment = room.environment(number, ONCE_IT_LISTENS)
+    try:
+        with dchm(room.program, room.directory, workers, environment=environment) as (child, port):
+            fault = fault_of_server(room, port, child, wanted)
+            kind = Kind.SERVED if child.poll() is None else Kind.REFUSED
+    except (OSError, RuntimeError, subprocess.SubprocessError) as error:
+        return Kind.REFUSED, f"{type(error).__name__}: {error}"
+    return kind, fault or (None if room.files() == before else "files were changed")
 
 
 def try_runs(room, case, *runs):
@@ -118,6 +155,11 @@ def try_runs(room, case, *runs):
 
 def try_opening(room, case):
     return try_runs(room, case, serve_once, check_once)
+
+
+def try_start(room, case):
+    """By few workers, as the clients are more than one of them is given at first."""
+    return try_runs(room, case, *(functools.partial(start_once, workers=workers) for workers in (1, 2)))
 
 
 def try_init(room, case):

@@ -4,7 +4,7 @@ import os
 import shutil
 
 from harness import files
-from harness.faulty import Page
+from harness.faulty import NEVER, Page
 
 # Each case makes fewer requests for memory.
 MOST_REQUESTS = 5_000
@@ -20,8 +20,8 @@ class Room:
         self.directory = os.path.join(place, "map")
         self.page = None
 
-    def environment(self, number, begins=False):
-        """That of a program whose request of this number is refused. They count at once, or once it is said."""
+    def environment(self, number, begins=NEVER):
+        """That of a program whose request of this number is refused, of those behind what begins them."""
         self.page = Page(os.path.join(self.place, "page"))
         self.page.refuse_memory(begins)
         return {**os.environ, "LD_PRELOAD": self.preload, "FAULT_PAGE": self.page.path, "FAULT_NUMBER": str(number)}
