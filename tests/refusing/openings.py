@@ -14,8 +14,6 @@ from refusing.rooms import Kind, Told, refuse_in_turn
 from refusing.served import ask_anew, reads_of, replies_of, serve, stream_of
 
 NO_MEMORY = "refused 7 NoMemory"
-# What is said if there is no memory for the words of the program.
-NO_WORDS = "Error: Kind(OutOfMemory)"
 REFUSED = 1
 # What each client of a server asks that starts its threads, and how many there are then.
 FIRST = (Method.count, None, ())
@@ -32,7 +30,7 @@ def files_of(case):
 def fault_of_refusal(status, printed, said):
     """What is wrong with the end of a program that found no memory."""
     lines = said.splitlines()
-    if (status, printed) == (REFUSED, "") and (lines[-1:] == [NO_MEMORY] or lines == [NO_WORDS]):
+    if (status, printed) == (REFUSED, "") and lines[-1:] == [NO_MEMORY]:
         return None
     return f"status {status}, {printed!r}, {said!r}"
 
