@@ -10,10 +10,11 @@
  *   FAULT_TO         the number of the last one
  *   FAULT_HOW        how: EIO, ENOSPC or EINTR, and nothing is done; short, and half of the bytes are moved; torn, and
  *                    half of the bytes are moved (a sync is made) and it fails with EIO
- *   FAULT_MEMORY     n, if one allocation in n is refused, once `begun` isn't 0
+ *   FAULT_MEMORY     n, if one allocation in n is refused, while `begun` is 1
  *   FAULT_SEED       which ones
- *   FAULT_NUMBER     the number of the one allocation that is refused, from 1; those count that are made between the
- *                    lines `begin` and `end` that the program writes to standard output, each in one call
+ *   FAULT_NUMBER     the number of the one allocation that is refused, from 1, while `begun` is 1. The line `begin` that
+ *                    the program writes to standard output makes it 1, in one call; the line `end` makes it 0, and so
+ *                    does one that begins with `listening `, unless it is 2: then it becomes 1
  */
 #define _GNU_SOURCE
 #include <dlfcn.h>
@@ -37,7 +38,8 @@ struct page {
     uint64_t calls;  /* those that counted */
     uint64_t faults; /* those that went wrong */
     uint64_t after;  /* syncs and writes of the directory's files behind the first that went wrong */
-    uint64_t begun;  /* set by the test, or by the program's lines: memory is refused from now on */
+    uint64_t begun;  /* set by the test, or by the program's lines: 1 if memory is refused from now on, 2 if it is from the
+                        line `listening ..` on */
     uint64_t asked;  /* allocations since then */
     uint64_t refused;
     char file[32]; /* the file at whose call it first went wrong */
@@ -177,16 +179,18 @@ static ssize_t move_out(int fd, const void *bytes, size_t length) {
     MOVES(WRITE, REAL(write)(fd, bytes, length));
 }
 
-/* Whether allocations count by lines of the program, and this is that line. */
-static int is_line(const char *line, int fd, const void *bytes, size_t length) {
-    return refused_one && fd == STDOUT_FILENO && length == strlen(line) && !memcmp(bytes, line, length);
+/* Whether allocations count by lines of the program, and this one begins so. */
+static int begins_with(const char *start, int fd, const void *bytes, size_t length) {
+    return refused_one && fd == STDOUT_FILENO && length >= strlen(start) && !memcmp(bytes, start, strlen(start));
 }
 
 ssize_t write(int fd, const void *bytes, size_t length) {
-    if (is_line("end\n", fd, bytes, length))
+    if (begins_with("end\n", fd, bytes, length))
         __atomic_store_n(&page->begun, 0, __ATOMIC_SEQ_CST);
+    if (begins_with("listening ", fd, bytes, length))
+        __atomic_store_n(&page->begun, __atomic_load_n(&page->begun, __ATOMIC_SEQ_CST) == 2, __ATOMIC_SEQ_CST);
     ssize_t done = move_out(fd, bytes, length);
-    if (is_line("begin\n", fd, bytes, length))
+    if (begins_with("begin\n", fd, bytes, length))
         __atomic_store_n(&page->begun, 1, __ATOMIC_SEQ_CST);
     return done;
 }
@@ -267,7 +271,7 @@ static int is_one_in(uint64_t number) {
 
 /* Whether this allocation is refused; it is counted. */
 static int is_refused(size_t size) {
-    if (!(memory || refused_one) || !__atomic_load_n(&page->begun, __ATOMIC_SEQ_CST))
+    if (!(memory || refused_one) || __atomic_load_n(&page->begun, __ATOMIC_SEQ_CST) != 1)
         return 0;
     uint64_t number = add_to(&page->asked);
     if (refused_one && number <= SIZES)

@@ -11,6 +11,10 @@ KEYS = ("", "a", "b", "Aa", "BB", "AaAa", "BBBB", "AaBB", "key", "ключ", "\U
 LONG_KEYS = ("x" * 256, "é" * 2047, "x" * 4095)
 # By the bytes that a key's length takes.
 KEYS_OF_WIDTH = {1: KEYS, 2: KEYS + LONG_KEYS}
+FEW_KEYS = ("", "a", "b", "Aa", "BB", "hello")
+FEW_VALUES = (-(1 << 63), (1 << 63) - 1, -1, 0, 1, 7, -7, "", "x", "yz")
+# A request of the whole map is made alone, so it is seldom.
+SOME_METHODS = 5 * (*plain.READS, *sorted(plain.CHANGES)) + plain.WHOLE_MAP
 # Numbers that a damaged field is given, besides those near the one that it has.
 NUMBERS = (0, 1, 2, 255, 256, 4096, 4097, 65535, 65536, (1 << 31) - 1, (1 << 32) - 1, (1 << 63) - 1, (1 << 63),
            (1 << 64) - 1)
@@ -58,6 +62,27 @@ def random_request(pick, key_width):
         body = bytes([method]) + key_bytes(pick.choice(KEYS_OF_WIDTH[key_width]), key_width)
         return body + (plain.value_bytes(random_value(pick)) if method == Method.getOrDefault else b"")
     return random_record(pick, key_width)
+
+
+def random_call(pick):
+    """A request of few keys and few values, so that they meet. Some arguments are absent, also where none may be."""
+    def value():
+        return None if pick.random() < 0.25 else pick.choice(FEW_VALUES)
+
+    method, function, threshold = pick.choice(SOME_METHODS), pick.choice(tuple(Function)), pick.choice(NUMBERS[:4])
+    if method == Method.reduce:
+        arguments = function, threshold
+    elif method == Method.search:
+        arguments = threshold, value()
+    elif method == Method.replaceIf:
+        arguments = value(), value()
+    elif method in (*plain.COMPUTE, Method.merge):
+        arguments = function, value()
+    elif method in (*plain.TAKE_A_VALUE, Method.getOrDefault):
+        arguments = (value(),)
+    else:
+        arguments = ()
+    return method, None if method in plain.WHOLE_MAP else pick.choice(FEW_KEYS), arguments
 
 
 def section_at(changes, mark, stripe, stripes):

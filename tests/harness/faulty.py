@@ -10,6 +10,8 @@ from harness.places import in_tree
 
 SOURCE = in_tree("tests", "faults.c")
 NO_COMPILER = "there is no C compiler (cc)"
+# When memory is refused: not, from now on, or from when a server says that it listens.
+NEVER, NOW, ONCE_IT_LISTENS = range(3)
 Counts = collections.namedtuple("Counts", "calls faults after begun asked refused file")
 
 
@@ -33,7 +35,7 @@ class Page:
         """How many bytes each of the first allocations asked for that counted."""
         return self.SIZES.unpack(self.bytes[self.FORM.size:])[:self.counts().asked]
 
-    def refuse_memory(self, begins=True):
+    def refuse_memory(self, begins=NOW):
         self.bytes[self.BEGUN] = begins
 
 

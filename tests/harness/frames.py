@@ -1,10 +1,25 @@
 """Frames of requests and replies, by a second reading of docs/PROTOCOL.md."""
 from harness.plain import (BAD_FRAME, FRAME_LIMIT, READS, REDUCING, REQUEST_KEY_WIDTH, UNKNOWN_FUNCTION, WHOLE_MAP, Bytes,
-                           Map, Method, Refused, record_at, value_bytes)
+                           Function, Map, Method, Refused, key_bytes, record_at, value_bytes)
 
 
 def frame(body):
     return len(body).to_bytes(2, "big") + body
+
+
+def argument_bytes(method, arguments):
+    """The arguments behind a method and its key. Of the whole map the threshold is a number without a kind."""
+    if method == Method.reduce:
+        return bytes([arguments[0]]) + arguments[1].to_bytes(8, "big")
+    if method == Method.search:
+        return arguments[0].to_bytes(8, "big") + value_bytes(arguments[1])
+    return b"".join(bytes([it]) if isinstance(it, Function) else value_bytes(it) for it in arguments)
+
+
+def body_of(request):
+    """The body of the frame of a request; one of the whole map has no key."""
+    method, key, arguments = request
+    return bytes([method]) + (b"" if key is None else key_bytes(key)) + argument_bytes(method, arguments)
 
 
 def whole_map_at(read):
@@ -43,9 +58,9 @@ def refusal_bytes(number):
     return reply_bytes(0x80 + number, None)
 
 
-def dialogue(stream):
+def dialogue(stream, kind=Map):
     """The replies of a new map to all that a stream has, up to and with the first of status 86."""
-    store, replies, read = Map(), [], Bytes(stream)
+    store, replies, read = kind(), [], Bytes(stream)
     while read.rest() >= 2:
         length = read.number(2)
         if not 1 <= length <= FRAME_LIMIT:

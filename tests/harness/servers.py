@@ -1,4 +1,5 @@
 """Requests and replies, runs of the program, and the processes of servers."""
+import concurrent.futures
 import contextlib
 import os
 import random
@@ -58,12 +59,13 @@ class Dchm:
 
 
 class Connection:
-    """A blocking socket that has one request under way; a reply that takes too long raises BlockingIOError."""
+    """A blocking socket; what takes too long, a reply or that bytes are taken, raises BlockingIOError."""
 
     def __init__(self, protocol, place):
         self.protocol = protocol
         self.socket = connect_to(place)
-        self.socket.setsockopt(socket.SOL_SOCKET, socket.SO_RCVTIMEO, struct.pack("ll", REPLY_SECONDS, 0))
+        for option in (socket.SO_RCVTIMEO, socket.SO_SNDTIMEO):
+            self.socket.setsockopt(socket.SOL_SOCKET, option, struct.pack("ll", REPLY_SECONDS, 0))
 
     def exchange(self, request):
         """Sends the request, and returns its whole reply."""
@@ -229,6 +231,31 @@ def connect_to(place):
         client.close()
         raise
     return client
+
+
+def send_to_end(client, pieces):
+    """Sends the pieces, and then no more, unless the server has ended the connection."""
+    with contextlib.suppress(OSError):
+        for piece in pieces:
+            client.sendall(piece)
+        client.shutdown(socket.SHUT_WR)
+
+
+def read_to_end(client):
+    """What the server sends until it ends the connection."""
+    content = b""
+    with contextlib.suppress(ConnectionError):
+        while more := client.recv(65536):
+            content += more
+    return content
+
+
+def replies_at(place, pieces):
+    """What the server replies to these pieces over a connection of their own. It is read while they are sent."""
+    with contextlib.closing(Connection(Dchm, place)) as connection:
+        with concurrent.futures.ThreadPoolExecutor(1) as sender:
+            sender.submit(send_to_end, connection.socket, pieces)
+            return read_to_end(connection.socket)
 
 
 def takes_connections(place):

@@ -1,5 +1,6 @@
-"""The cases of tests/memory, and what they are to print.
+"""The cases of tests/memory, and what is to come of them.
 
-`cases` reads them and has the map on which they are played, `expected` tells what is to be printed, and `later` makes the
-directory of a later generation.
+`cases` reads them and has the map on which they are played, and `rooms` has where the program runs, its requests refused in
+turn. `driver` plays the cases of run_memory, and `expected` tells what it is to print. `served` plays those of a server's
+connections, and `openings` those of directories, whose files `directories` makes.
 """

@@ -7,17 +7,21 @@ from harness.places import in_tree, read
 from harness.plain import Method
 from harness.words import FUNCTIONS, request_in, value_in, word_of
 
+# Those of the driver, and those of the program.
 CASES = in_tree("crates", "run_memory", "data", "memory.cases")
+TABLE = in_tree("tests", "refused_memory.table")
 
 
-def question_in(text):
-    """The method's number and the arguments of what a view is asked."""
+def request_named(text):
+    """The method's number, the key and the arguments that a text has. One of the whole map has no key."""
     name, *words = text.split(" ")
     if name == "count":
-        return Method.count, ()
+        return Method.count, None, ()
     if name == "reduce":
-        return Method.reduce, (FUNCTIONS[words[0]], int(words[1]))
-    return Method.search, (int(words[0]), value_in(words[1]))
+        return Method.reduce, None, (FUNCTIONS[words[0]], int(words[1]))
+    if name == "search":
+        return Method.search, None, (int(words[0]), value_in(words[1]))
+    return request_in(text)
 
 
 @dataclasses.dataclass
@@ -95,10 +99,6 @@ def cases_in(path):
 def concat_row():
     """A text of 4,095 bytes stays, and no ticket is drawn, until the byte that makes it the longest is put behind it."""
     return Case(f"try_call 16 | put m t{'x' * 4095} > merge m CONCAT ty")
-
-
-def later_row():
-    return Case("open_found 4 | put d i1 | put a tone | put h ttwo | merge a CONCAT tthree | put b i5 | put c tsix")
 
 
 def puts(count):

@@ -2,9 +2,8 @@
 import dataclasses
 
 from harness import frames, plain
-from harness.plain import Method
-from harness.words import reply_text, word_of
-from refusing.cases import Store, question_in
+from harness.words import reply_text
+from refusing.cases import Store
 
 SWEPT_STRIPE = 1
 NO_MEMORY = "refused 7 NoMemory"
@@ -99,23 +98,6 @@ def capture_of(case):
     return Expected([*start, *served], [again(start, [*shown, "  checkpoint Ready, sections 0"], served)])
 
 
-def opening_of(case):
-    """A refused opening hands the disk back, with which the next one opens. It makes the changes of the log again."""
-    growths = growths_in(Store(dataclasses.replace(case, line=f"{case.word} {case.stripes}")), case.state)
-    store = Store(case)
-    store.sweep(range(case.stripes))
-    lines = store.stripe_lines()
-    if case.word == "open_parts":
-        lines = [f"  part {stripe}:{store.words(stripe)}" for stripe in range(case.stripes)]
-    served = [f"opened {len(case.state)}", *lines]
-    return Expected(["begin", "end", *served], [again(["begin", "end"], [], served)], growths)
-
-
-def found_of(case):
-    """The same of a directory of a later generation. No stripe gets so many changes of its logs that it grows."""
-    return dataclasses.replace(opening_of(case), growths=0)
-
-
 def format_of(case):
     """A refused format leaves empty files."""
     served = ["formatted", f"  lengths {36 + 12 * case.stripes} 0 18 0"]
@@ -167,61 +149,11 @@ def growing_of(case):
     return Expected(printed(False), [printed(True)])
 
 
-def view_of(case):
-    """A refused view leaves each stripe free, and draws no ticket."""
-    store = Store(case)
-    count = len(store.map.entries)
-    marks = " ".join([str(len(store.log))] * case.stripes)
-    reads = [f"reply {position} {reply_text(*reply)}" for position, reply in map(store.call, case.called)]
-    served = [f"viewed, marks {marks}, entries {count}", *reads]
-    return Expected(["begin", "end", *served], [again(["begin", "end"], reads, served)])
-
-
-def viewed_line(method, status, value):
-    """The line of what a view returned."""
-    if method == Method.count:
-        return f"counted {value}"
-    if method == Method.search:
-        return f"found {'none' if value is None else value}"
-    return f"reduced {reply_text(status, value) if status == plain.FAULT else word_of(value)}"
-
-
-def asked_of(case, takes_memory):
-    """What is asked of a view or of the map. Each question of which this is said may be refused, and is asked again."""
-    entries = Store(case).map.entries
-    questions = [question_in(text) for text in case.called]
-    answers = [(method, *plain.viewed(entries, method, arguments)) for method, arguments in questions]
-
-    def printed(refused_number):
-        lines = []
-        for number, answer in enumerate(answers):
-            served = [viewed_line(*answer)]
-            lines += again(["begin", "end"], [], served) if number == refused_number else ["begin", "end", *served]
-        return lines
-
-    refused = [number for number, (method, _, value) in enumerate(answers) if takes_memory(method, value)]
-    return Expected(printed(None), [printed(number) for number in refused])
-
-
-def questions_of(case):
-    """A search that finds no memory for its key is refused, and the view stays. Nothing else takes memory."""
-    return asked_of(case, lambda method, value: method == Method.search and value is not None)
-
-
-def whole_of(case):
-    """A refused call leaves each stripe free. A count takes no memory."""
-    return asked_of(case, lambda method, _: method != Method.count)
-
-
 READERS = {
     "try_call": calls_of, "call": calls_of, "try_read": calls_of,
     "sweep": sweep_of, "try_sweep": sweep_of, "stage_batch": sweep_of,
     "capture": capture_of, "try_capture": capture_of,
-    "open": opening_of, "open_parts": opening_of, "open_found": found_of,
-    "format": format_of, "format_memory": format_of,
-    "worker": connection_of, "memory": connection_of,
-    "growing": growing_of,
-    "view": view_of, "asked_of_view": questions_of, "asked_of_map": whole_of,
+    "format_memory": format_of, "memory": connection_of, "growing": growing_of,
 }
 
 
