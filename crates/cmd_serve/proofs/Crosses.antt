@@ -14,10 +14,13 @@ use Rattle.crossbeam_channel.proofs.channel.Sender.TheSendSync as sender
 use Rattle.crossbeam_channel.proofs.channel.Receiver.TheSendSync as receiver
 use Rattle.stripe_locks.specs.contracts.held.Held as Held
 use Rattle.connections.proofs.resting.Resting.TheSendSync as resting
+use Rattle.connections.proofs.room.Row.TheSendSync as row
+use Rattle.connections.proofs.room.Buffer.TheSendSync as buffer
 use Rattle.cmd_serve.specs.contracts.begun.Begun as Begun
 use Rattle.cmd_serve.specs.contracts.errands.Errand as Errand
 use Rattle.cmd_serve.specs.contracts.errands.Office as Office
 use Rattle.cmd_serve.specs.contracts.desk.Seat as Seat
+use Rattle.cmd_serve.specs.contracts.desk.Stock as Stock
 use Rattle.cmd_serve.specs.contracts.pool.Pool as Pool
 use Rattle.cmd_serve.specs.contracts.service.Ending as Ending
 use Rattle.cmd_serve.specs.contracts.service.Service as Service
@@ -37,6 +40,9 @@ office_send = search (errand_send, sender.the_send, receiver.the_send, crosses, 
 
 pub seat_send : IsSend Seat.the_row
 seat_send = search (errand_send, sender.the_send, receiver.the_send, crosses, sendable) depth 40
+
+pub stock_send : IsSend Stock.the_row
+stock_send = search (begun_send, row.the_send, buffer.the_send, crosses, sendable) depth 40
 
 module _ (a : NamedLft) (D : RattleType) (g : Ghosts D.Denot) where
   service_fields : IsSend D → AllSync (shape (Service.the_type a D g)).fields
