@@ -92,8 +92,8 @@ pub(crate) fn play_memory<R: AllocGlobal + Print + Wait>(
     )
 }
 
-/// How many device calls are made before the first change. If one of them fails, the map isn't begun,
-/// and is refused with `Failed`.
+/// How many device calls are made before the first change. If one of them fails, the map isn't
+/// begun, and is refused with `Failed`.
 fn first_calls<R: AllocGlobal + Wait>(rt: &R) -> Result<u64, Refusal> {
     for after in 0..MANY {
         match begun(rt, Some(after)) {
@@ -105,8 +105,8 @@ fn first_calls<R: AllocGlobal + Wait>(rt: &R) -> Result<u64, Refusal> {
     Err(Refusal::WrongPhase)
 }
 
-/// Behind how many device calls a map fails that serves these connections. The words begin with how many
-/// of them are made for changes; `-` stands for none that fails.
+/// Behind how many device calls a map fails that serves these connections. The words begin with how
+/// many of them are made for changes; `-` stands for none that fails.
 fn failing_after<R: AllocGlobal + Wait>(rt: &R, word: &str) -> Result<Option<u64>, Refusal> {
     if word == "-" {
         return Ok(None);
@@ -133,8 +133,8 @@ fn replies<R: AllocGlobal + Print + Wait>(
     Ok(told)
 }
 
-/// What comes of connections of one map whose disk fails behind so many calls for changes.
-/// Of the word `first` comes how many are made before.
+/// What comes of connections of one map whose disk fails behind so many calls for changes. Of the
+/// word `first` comes how many are made before.
 pub(crate) fn served<R: AllocGlobal + Print + Wait>(
     rt: &R,
     names: &Names,

@@ -31,8 +31,8 @@ fn node_in(alloc: Global, text: &str) -> Result<Box<Node>, Refusal> {
     }
 }
 
-/// Makes the growth that is due, as a change does before it adds its key. Then adds an entry, and tells
-/// how many bins there are.
+/// Makes the growth that is due, as a change does before it adds its key. Then adds an entry, and
+/// tells how many bins there are.
 fn add<R: AllocGlobal + Print>(
     rt: &R,
     table: &mut Growing,

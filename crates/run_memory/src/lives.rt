@@ -30,8 +30,8 @@ fn version_of(word: &str) -> Result<Version, Refusal> {
     }
 }
 
-/// The directory of an empty map. The words are its stripes, its version, and perhaps behind how many
-/// calls from now on its disk fails.
+/// The directory of an empty map. The words are its stripes, its version, and perhaps behind how
+/// many calls from now on its disk fails.
 fn directory_of(alloc: Global, words: &[&str]) -> Result<Directory, Refusal> {
     let [stripes, version, after @ ..] = words else {
         return Err(Refusal::WrongPhase);
@@ -180,8 +180,8 @@ impl Directory {
     }
 }
 
-/// What is told of `STRIPES VERSION > LIFE > DISK > LIFE > ..`: the steps of each life of a store, and
-/// what is done with its disk behind it.
+/// What is told of `STRIPES VERSION > LIFE > DISK > LIFE > ..`: the steps of each life of a store,
+/// and what is done with its disk behind it.
 pub(crate) fn lived<R: AllocGlobal + Wait>(rt: &R, input: &str) -> Result<String, Refusal> {
     let alloc = rt.alloc();
     let (head, rest) = input.split_once(" > ").unwrap_or((input, ""));

@@ -1,6 +1,7 @@
-//! Plays the cases in the files that its words name. A case of `keeper` or of `memory_map` is a line with its
-//! name, its input and what is to come. Other files have lines of calls, each of which is made between two marks,
-//! and of which is told what stands before and after: `tests/memory` refuses memory between the marks.
+//! Plays the cases in the files that its words name. A case of `keeper` or of `memory_map` is a
+//! line with its name, its input and what is to come. Other files have lines of calls, each of
+//! which is made between two marks, and of which is told what stands before and after:
+//! `tests/memory` refuses memory between the marks.
 #![tactic(auto)]
 
 mod cases;

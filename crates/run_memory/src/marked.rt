@@ -38,7 +38,8 @@ fn show(store: &Store, made: Made<'_>, told: &mut String) -> Result<(), Refusal>
     Ok(())
 }
 
-/// Makes the step. Tells what was answered and what stands after it, and says whether it was refused.
+/// Makes the step. Tells what was answered and what stands after it, and says whether it was
+/// refused.
 fn make<R: AllocGlobal + Print + Wait>(
     rt: &R,
     store: &mut Store,

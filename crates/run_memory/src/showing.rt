@@ -112,8 +112,8 @@ pub(crate) fn show_stripes(
     show_all(alloc, &mut board, told)
 }
 
-/// Tells how many commands are in hand in a row, staged and committed, the phase of the log, and that
-/// of the checkpoint with how many sections it was given.
+/// Tells how many commands are in hand in a row, staged and committed, the phase of the log, and
+/// that of the checkpoint with how many sections it was given.
 pub(crate) fn show_keeper<D: Disk>(
     keeper: &Keeper<D>,
     told: &mut String,

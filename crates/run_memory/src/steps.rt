@@ -88,7 +88,8 @@ fn longest(alloc: Global, bytes: &str) -> Result<Asked, Refusal> {
     }))
 }
 
-/// The step that is written so: a word with what belongs to it, or the words of a call of the worker.
+/// The step that is written so: a word with what belongs to it, or the words of a call of the
+/// worker.
 pub(crate) fn step_of(alloc: Global, text: &str) -> Result<Step, Refusal> {
     let (word, rest) = text.split_once(' ').unwrap_or((text, ""));
     Ok(match word {

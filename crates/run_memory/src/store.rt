@@ -23,8 +23,8 @@ use stripe_locks::{Held, Pass, Released, Stripes};
 /// How many replies are held without a request for memory.
 const ROOM: usize = 64;
 
-/// A keeper over shared stripes with its pass; and a worker of these stripes, with the replies that it
-/// holds. Between two steps the worker holds no stripe.
+/// A keeper over shared stripes with its pass; and a worker of these stripes, with the replies that
+/// it holds. Between two steps the worker holds no stripe.
 #[derive(Drop)]
 pub(crate) struct Store {
     alloc: Global,
@@ -202,8 +202,8 @@ impl Store {
         Ok(())
     }
 
-    /// Has a new pass release the worker's replies: what came of each. The worker holds on those that
-    /// have to wait.
+    /// Has a new pass release the worker's replies: what came of each. The worker holds on those
+    /// that have to wait.
     pub(crate) fn release(&mut self) -> Result<String, Refusal> {
         let mut told = String::new(self.alloc);
         let held = mem::replace(&mut self.held, Vec::new(self.alloc));
