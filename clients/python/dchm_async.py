@@ -16,8 +16,8 @@ import socket
 from collections.abc import Callable
 from typing import Any
 
-import dchm
-from dchm import Address, Function, Value
+import dchm_wire as wire
+from dchm_wire import Address, Function, Value
 
 
 class _Connection:
@@ -51,7 +51,7 @@ class _Connection:
 
     async def _body(self) -> bytes:
         length = int.from_bytes(await self.reader.readexactly(2), "big")
-        if not 2 <= length <= dchm.REPLY_LIMIT or not self.waiting:
+        if not 2 <= length <= wire.REPLY_LIMIT or not self.waiting:
             raise ConnectionError("bytes that are no reply")
         return await self.reader.readexactly(length)
 
@@ -59,7 +59,7 @@ class _Connection:
         try:
             while True:
                 body = await self._body()
-                found = dchm.result(self.waiting[0][0], body)
+                found = wire.result(self.waiting[0][0], body)
                 _, future, _ = self.waiting.popleft()
                 self.last_use = asyncio.get_running_loop().time()
                 if future.done():
@@ -79,7 +79,7 @@ class _Connection:
         while self.waiting:
             frame, future, _ = self.waiting.popleft()
             if not future.done():
-                future.set_exception(dchm.lost(frame, f"it was sent, and no reply came: {why!r}"))
+                future.set_exception(wire.lost(frame, f"it was sent, and no reply came: {why!r}"))
 
     async def ended(self, why: BaseException) -> None:
         self.end(why)
@@ -117,7 +117,7 @@ class AsyncClient:
         """Connects, and makes a Get of the empty key: its reply shows that the server serves this connection."""
         connection = _Connection(*await self._streams(), self.timeout)
         try:
-            await connection.send(dchm.request(dchm.GET, ""))
+            await connection.send(wire.request(wire.GET, ""))
         except BaseException as error:
             await connection.ended(error)
             raise
@@ -127,14 +127,14 @@ class AsyncClient:
         try:
             return await asyncio.wait_for(self._probed(), self.connect_timeout)
         except (TimeoutError, asyncio.TimeoutError) as error:
-            raise dchm.NotMade(
+            raise wire.NotMade(
                 f"the server at {self.address} didn't serve the connection within {self.connect_timeout} s") from error
         except OSError as error:
-            raise dchm.not_served(self.address, error) from error
-        except dchm.NotMade as error:
-            raise dchm.not_served(self.address, EOFError(str(error))) from error
-        except dchm.DchmError as error:
-            raise dchm.NotMade(f"no server at {self.address}: {error}") from error
+            raise wire.not_served(self.address, error) from error
+        except wire.NotMade as error:
+            raise wire.not_served(self.address, EOFError(str(error))) from error
+        except wire.DchmError as error:
+            raise wire.NotMade(f"no server at {self.address}: {error}") from error
 
     async def _current(self) -> _Connection:
         if not self._connection or self._connection.broken:
@@ -168,72 +168,72 @@ class AsyncClient:
             connection = await self._current()
             # Nothing is awaited between this look at the connection and the sending.
             if connection.broken:
-                raise dchm.NotMade(f"the connection ended before it was sent: {connection.broken!r}")
+                raise wire.NotMade(f"the connection ended before it was sent: {connection.broken!r}")
             return await connection.send(frame)
 
     async def get(self, key: str) -> Value | None:
         """The value of a key, or None."""
-        return await self._call(dchm.request(dchm.GET, key))
+        return await self._call(wire.request(wire.GET, key))
 
     async def get_or_default(self, key: str, value: Value) -> Value:
         """The value of a key, or this one."""
-        return await self._call(dchm._change(dchm.GET_OR_DEFAULT, key, value))
+        return await self._call(wire.valued_request(wire.GET_OR_DEFAULT, key, value))
 
     async def contains(self, key: str) -> bool:
         """Whether a key has a value."""
-        return await self._call(dchm.request(dchm.CONTAINS_KEY, key))
+        return await self._call(wire.request(wire.CONTAINS_KEY, key))
 
     async def put(self, key: str, value: Value) -> Value | None:
         """Maps a key to a value; returns the value before."""
-        return await self._call(dchm._change(dchm.PUT, key, value))
+        return await self._call(wire.valued_request(wire.PUT, key, value))
 
     async def put_if_absent(self, key: str, value: Value) -> Value | None:
         """Maps a key to a value if it has none; returns the value before, so None if it was done."""
-        return await self._call(dchm._change(dchm.PUT_IF_ABSENT, key, value))
+        return await self._call(wire.valued_request(wire.PUT_IF_ABSENT, key, value))
 
     async def remove(self, key: str) -> Value | None:
         """Unmaps a key; returns the value before."""
-        return await self._call(dchm.request(dchm.REMOVE, key))
+        return await self._call(wire.request(wire.REMOVE, key))
 
     async def remove_if(self, key: str, value: Value) -> bool:
         """Unmaps a key if it has this value; returns whether it was done."""
-        return await self._call(dchm._change(dchm.REMOVE_IF, key, value))
+        return await self._call(wire.valued_request(wire.REMOVE_IF, key, value))
 
     async def replace(self, key: str, value: Value) -> Value | None:
         """Maps a key to another value if it has one; returns the value before."""
-        return await self._call(dchm._change(dchm.REPLACE, key, value))
+        return await self._call(wire.valued_request(wire.REPLACE, key, value))
 
     async def replace_if(self, key: str, old: Value, new: Value) -> bool:
         """Maps a key to another value if it has the old one; returns whether it was done."""
-        return await self._call(dchm._change(dchm.REPLACE_IF, key, old, new))
+        return await self._call(wire.valued_request(wire.REPLACE_IF, key, old, new))
 
     async def compute(self, key: str, function: Function, argument: Value | None = None) -> Value | None:
         """Maps a key to what the function gives of the old value and the argument; returns the new value."""
-        return await self._call(dchm.function_request(dchm.COMPUTE, key, function, argument))
+        return await self._call(wire.function_request(wire.COMPUTE, key, function, argument))
 
     async def compute_if_absent(self, key: str, function: Function, argument: Value | None = None) -> Value | None:
         """As compute, if the key has no value; returns the value that it has now."""
-        return await self._call(dchm.function_request(dchm.COMPUTE_IF_ABSENT, key, function, argument))
+        return await self._call(wire.function_request(wire.COMPUTE_IF_ABSENT, key, function, argument))
 
     async def compute_if_present(self, key: str, function: Function, argument: Value | None = None) -> Value | None:
         """As compute, if the key has a value; returns the value that it has now."""
-        return await self._call(dchm.function_request(dchm.COMPUTE_IF_PRESENT, key, function, argument))
+        return await self._call(wire.function_request(wire.COMPUTE_IF_PRESENT, key, function, argument))
 
     async def merge(self, key: str, function: Function, value: Value) -> Value | None:
         """Maps a key to the function of the old value and this one, or to this one; returns the new value."""
-        return await self._call(dchm._merge(key, function, value))
+        return await self._call(wire.merge_request(key, function, value))
 
     async def count(self) -> int:
         """How many keys have a value. The server copies its whole map for it, and what follows waits."""
-        return await self._call(dchm.count_request())
+        return await self._call(wire.count_request())
 
     async def reduce(self, function: Function, threshold: int = 0) -> int | None:
         """All values folded by SUM, MAX or MIN, or None of an empty map. It costs as much as count."""
-        return await self._call(dchm.reduce_request(function, threshold))
+        return await self._call(wire.reduce_request(function, threshold))
 
     async def search(self, value: Value, threshold: int = 0) -> str | None:
         """The least key, by its bytes, with this value, or None. It costs as much as count."""
-        return await self._call(dchm.search_request(value, threshold))
+        return await self._call(wire.search_request(value, threshold))
 
     async def update(self, key: str, function: Callable[[Value | None], Value | None]) -> Value | None:
         """Maps a key to function(value or None); None unmaps it. Returns the new value.

@@ -44,8 +44,8 @@ IsRising read = finite.entries (section_of read).map ≡ read.entries.items
 abbrev pub AreRising : List LoadedSection → Type 0
 AreRising reads = AllByRecursion IsRising reads
 
--- the refusals of a file that no checkpoint is read from; the sections have the layout of the version that the head
--- names
+-- The first fault of a file that no checkpoint is read from: of its head, or of its sections if it is sealed. The
+-- sections have the layout of the version that the head names.
 abbrev pub IsUnloadable : ℕ → List ℕ → Refusal → Type 0
 IsUnloadable file content refusal =
     (head_fault file content ≡ Some refusal) ⊎ ((is_sealed content ≡ true) × (head_fault file content ≡ None)

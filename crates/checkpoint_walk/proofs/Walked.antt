@@ -34,7 +34,6 @@ use Rattle.checkpoint_walk.specs.Capturing.{HasLooked, HasTaken, IsStaged, Stand
 use Rattle.checkpoint_walk.proofs.CaptureWalks.{same_stripe, by_change, by_read, by_release, by_sweep}
 
 -- ---- its steps
-
 -- TAKE, LOOK, GIVE
 abbrev made_by : List StepMade → ℕ → List Entry → ℕ → ℕ → ℕ → List StepMade
 made_by steps i outbox last q j = ((steps ++ Took i outbox last ∷ []) ++ Looked q ∷ []) ++ Gave j ∷ []
@@ -103,7 +102,6 @@ pub third_put_back : (b : Record) (i : ℕ) (e : Refusal) (w : Record) → Refus
 third_put_back b i e w r made = elim (refused_by b i e w r) [ inl is ↦ (let long = missed_long b i w is in absurd (omega (arith, long, made))) | inr k ↦ k ]
 
 -- ---- the stage after so many steps
-
 taken_at : (n : ℕ) (b : Record) (i : ℕ) (s : Stage) (p : Record) → FitsStage n b (ToCapture i) s p → length p.steps ≡ length b.steps + 1 → next_of_stage n s ≡ Look
 taken_at n b i (stage.Change s) p k made = absurd (by_change n b i s p k)
 taken_at n b i (stage.Read s) p k made = absurd (by_read n b i s p k)
@@ -178,7 +176,6 @@ pub looked_next : (n : ℕ) (b : Record) (i : ℕ) (walk : Walk) (p : Record) �
 looked_next n b i walk p k made = record { fits = k; next = looked_at n b i walk.stage p k made; two_made = made }
 
 -- ---- how a step ends
-
 -- a TAKE that leaves nothing to go on with found the stripe held
 pub missed : (n : ℕ) (b : Record) (i : ℕ) (w : Record) (r : Stepped) → Next n b (ToCapture i) r w → ((x : Walk) → r ≡ stepped.More x → ⊥) → length w.steps ≡ length b.steps + 1 → w ≡ missing b i
 missed n b i w (stepped.More x) next not_more made = absurd (not_more x refl)
@@ -206,7 +203,6 @@ pub refuses : (n : ℕ) (b : Record) (i : ℕ) (walk : Walk) (p : Record) (e : R
 refuses n b i walk p e k kept refused = refused_at n b i walk.stage p e k.fits k.two_made kept refused
 
 -- ---- the keeper's record beside it
-
 beside_at : (b v w : Record) → IsBeside b v → w ≡ v → IsBeside b w
 beside_at b v w k is = subst (IsBeside b) (sym is) k
 
@@ -303,7 +299,6 @@ pub refused_free : (b : Record) (i : ℕ) (e : Refusal) (w : Record) → b.holdi
 refused_free b i e w free r = elim (refused_by b i e w r) [ inl is ↦ ap (λ (z : Record). z.holding) is ∙ free | inr k ↦ ap (λ (z : Record). z.holding) k.is ]
 
 -- ---- what was copied is given to the checkpoint
-
 some_same : (x y : Captured) → Some x ≡ Some y → x ≡ y
 some_same x y e = cc
 

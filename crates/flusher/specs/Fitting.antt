@@ -129,7 +129,7 @@ FitsFurther states honest before after =
     (n : ℕ) (p : Record) (done : List Command) → Fits states honest n done before p
     → (more : List Command) × Fits states honest n more after p
 
--- it fits the record that the pass has after its steps, and no more is committed
+-- if it fitted the pass's record, it fits the one that the pass has after its steps, and no more is committed
 abbrev pub FitsOn : {D S : Type 0} → (D → List Files) → (D → Type 0) → (S → ℕ) → (S → Record)
     → Keeper D → S → Keeper D → S → Type 0
 FitsOn states honest stripe_count recorded keeper steps keeper_after steps_after =

@@ -28,7 +28,10 @@ fn see_that_it_is_free<S: SocketFiles>(files: &S, held: &S::Room, path: &str) ->
 }
 
 /// Removes the directory in which a socket is made, which is held, and a socket in it.
-fn clear<S: SocketFiles>(files: &S, held: &S::Room, room: &str, inner: &str) {
+fn clear<S: SocketFiles>(files: &S, held: &S::Room, room: &str, inner: &str)
+    requires inside { (path : List ℕ) × (room.now ≡ room_of path)
+        × (inner.now ≡ inner_of path) }
+{
     if let Ok(Found::Socket) = files.look(held, inner) {
         let _ = files.remove_socket(inner);
     }
@@ -38,6 +41,8 @@ fn clear<S: SocketFiles>(files: &S, held: &S::Room, room: &str, inner: &str) {
 /// Makes the directory in which the socket is made. One that a process left which has ended is removed
 /// first; one that another process holds stays.
 fn make_room<S: SocketFiles>(files: &S, room: &str, inner: &str) -> io::Result<S::Room>
+    requires inside { (path : List ℕ) × (room.now ≡ room_of path)
+        × (inner.now ≡ inner_of path) }
     ensures { IfOk result (S.is_private room.now) }
 {
     if let Some(left) = files.hold(room)? {

@@ -91,12 +91,14 @@ pub trait SocketFiles {
         requires free { was_free held.now to.now }
         ensures { OnOk result (is_renamed from.now to.now) };
 
-    /// Removes a socket's file.
-    fn remove_socket(&self, path: &str) -> io::Result<()>
-        requires { was_socket path.now };
+    /// Removes a socket's file in the directory in which sockets are made.
+    fn remove_socket(&self, inner: &str) -> io::Result<()>
+        requires socket { was_socket inner.now }
+        requires inside { (path : List ℕ) × (inner.now ≡ inner_of path) };
 
-    /// Removes a directory, if it is empty.
-    fn remove_directory(&self, path: &str) -> io::Result<()>;
+    /// Removes the directory in which sockets are made, if it is empty.
+    fn remove_directory(&self, room: &str) -> io::Result<()>
+        requires { (path : List ℕ) × (room.now ≡ room_of path) };
 }
 
 /// The rights of the directory in which a socket is made: its user's alone.
@@ -200,11 +202,11 @@ impl<R: Files<File = File> + Net> SocketFiles for R {
         fs::rename(self, from, to)
     }
 
-    fn remove_socket(&self, path: &str) -> io::Result<()> {
-        fs::remove_file(self, path)
+    fn remove_socket(&self, inner: &str) -> io::Result<()> {
+        fs::remove_file(self, inner)
     }
 
-    fn remove_directory(&self, path: &str) -> io::Result<()> {
-        fs::remove_dir(self, path)
+    fn remove_directory(&self, room: &str) -> io::Result<()> {
+        fs::remove_dir(self, room)
     }
 }
