@@ -105,15 +105,6 @@ fn first_calls<R: AllocGlobal + Wait>(rt: &R) -> Result<u64, Refusal> {
     Err(Refusal::WrongPhase)
 }
 
-/// Behind how many device calls a map fails that serves these connections. The words begin with how
-/// many of them are made for changes; `-` stands for none that fails.
-fn failing_after<R: AllocGlobal + Wait>(rt: &R, word: &str) -> Result<Option<u64>, Refusal> {
-    if word == "-" {
-        return Ok(None);
-    }
-    Ok(Some(first_calls(rt)?.saturating_add(number(word)?)))
-}
-
 /// What is replied to the connections of these words, and how long the log is then.
 fn replies<R: AllocGlobal + Print + Wait>(
     rt: &R,
@@ -123,7 +114,11 @@ fn replies<R: AllocGlobal + Print + Wait>(
     let Some((after, texts)) = words.split_first() else {
         return Err(Refusal::WrongPhase);
     };
-    let mut memory = begun(rt, failing_after(rt, after)?)?;
+    let after = match *after {
+        "-" => None,
+        calls => Some(first_calls(rt)?.saturating_add(number(calls)?)),
+    };
+    let mut memory = begun(rt, after)?;
     let mut told = String::new(rt.alloc());
     serve_each(rt, &mut memory, names, texts, Marks::None, "; ", &mut told)?;
     match memory.into_disk().len(LOG) {

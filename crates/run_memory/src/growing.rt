@@ -20,13 +20,12 @@ fn spread_of(key: &Key) -> u32
 
 /// The entry of a put.
 fn node_in(alloc: Global, text: &str) -> Result<Box<Node>, Refusal> {
-    match asked_in(alloc, text)? {
-        Asked::Change(
-            Command {
-                key,
-                change: Change::Put(value),
-            },
-        ) => Ok(Node::new(alloc, key, value)?),
+    let Asked::Change(command) = asked_in(alloc, text)? else {
+        return Err(Refusal::WrongPhase);
+    };
+    let Command { key, change } = command;
+    match change {
+        Change::Put(value) => Ok(Node::new(alloc, key, value)?),
         _ => Err(Refusal::WrongPhase),
     }
 }

@@ -10,15 +10,17 @@ use crate::store::Store;
 use disk_model::MemDisk;
 use map_types::Refusal;
 use recovery::format;
-use std::alloc::Global;
 use std::io;
 use std::sync::Wait;
 
 /// All that the stripes have is committed and published.
 const COMMIT: [&str; 4] = ["sweep", "stage", "4*log", "publish"];
 
-/// A checkpoint is begun with its log, and waits for its first section.
-const BEGIN: [&str; 3] = ["begin", "6*log", "3*write"];
+/// All that the stripes have is committed and published. A checkpoint is begun with its log, and
+/// waits for its first section.
+const BEGIN: [&str; 7] = [
+    "sweep", "stage", "4*log", "publish", "begin", "6*log", "3*write",
+];
 
 /// What is made between the marks, and how what it answers is named.
 #[derive(Clone, Copy)]
@@ -121,14 +123,12 @@ fn play_calls<R: AllocGlobal + Print + Wait>(
 fn play_step<R: AllocGlobal + Print + Wait>(
     rt: &R,
     case: &Case<'_>,
-    before: &[&[&str]],
+    before: &[&str],
     made: Made<'_>,
     told: &mut String,
 ) -> Result<Store, Refusal> {
     let mut store = with_state(rt, case)?;
-    for texts in before {
-        store.take_each(rt, texts)?;
-    }
+    store.take_each(rt, before)?;
     show(&store, made, told)?;
     make_in_time(rt, &mut store, made, told)?;
     Ok(store)
@@ -138,7 +138,7 @@ fn play_step<R: AllocGlobal + Print + Wait>(
 fn play_sweep<R: AllocGlobal + Print + Wait>(
     rt: &R,
     case: &Case<'_>,
-    before: &[&[&str]],
+    before: &[&str],
     step: &str,
     told: &mut String,
 ) -> Result<(), Refusal> {
@@ -168,39 +168,31 @@ fn play_capture<R: AllocGlobal + Print + Wait>(
         answer: "mark ",
         is_keepers: true,
     };
-    play_step(rt, case, &[&COMMIT, &BEGIN], made, told)?;
+    play_step(rt, case, &BEGIN, made, told)?;
     Ok(())
 }
 
-/// Plays a case by the word of what it calls.
+/// Plays the case of a line, by the word of what it calls. What is told of it stands behind what was
+/// printed.
 fn play<R: AllocGlobal + Print + Wait>(
-    rt: &R,
-    case: &Case<'_>,
-    told: &mut String,
-) -> Result<(), Refusal> {
-    match case.word {
-        "try_call" | "try_read" => play_calls(rt, case, "", told),
-        "call" => play_calls(rt, case, "waiting ", told),
-        "sweep" => play_sweep(rt, case, &[], "sweep", told),
-        "try_sweep" => play_sweep(rt, case, &[], "try_sweep 1", told),
-        "stage_batch" => play_sweep(rt, case, &[&["sweep"]], "stage", told),
-        "capture" => play_capture(rt, case, "capture 0", told),
-        "try_capture" => play_capture(rt, case, "try_capture 0", told),
-        "format_memory" => play_format(rt, case, told),
-        "memory" => play_memory(rt, case, told),
-        "growing" => play_growing(rt, case, told),
-        _ => Err(Refusal::WrongPhase),
-    }
-}
-
-/// What is told of the case of a line, behind what was printed of it.
-fn play_case<R: AllocGlobal + Print + Wait>(
     rt: &R,
     line: &str,
     told: &mut String,
 ) -> Result<(), Refusal> {
     let case = case_of(rt.alloc(), line)?;
-    play(rt, &case, told)
+    match case.word {
+        "try_call" | "try_read" => play_calls(rt, &case, "", told),
+        "call" => play_calls(rt, &case, "waiting ", told),
+        "sweep" => play_sweep(rt, &case, &[], "sweep", told),
+        "try_sweep" => play_sweep(rt, &case, &[], "try_sweep 1", told),
+        "stage_batch" => play_sweep(rt, &case, &["sweep"], "stage", told),
+        "capture" => play_capture(rt, &case, "capture 0", told),
+        "try_capture" => play_capture(rt, &case, "try_capture 0", told),
+        "format_memory" => play_format(rt, &case, told),
+        "memory" => play_memory(rt, &case, told),
+        "growing" => play_growing(rt, &case, told),
+        _ => Err(Refusal::WrongPhase),
+    }
 }
 
 /// Plays the case of a line, and prints what is told of it.
@@ -210,7 +202,7 @@ pub(crate) fn play_line<R: AllocGlobal + Print + Wait>(rt: &R, line: &str) -> io
     }
     println!(rt; "{line}")?;
     let mut told = String::new(rt.alloc());
-    let played = play_case(rt, line, &mut told);
+    let played = play(rt, line, &mut told);
     print!(rt; "{told}")?;
     match played {
         Ok(()) => Ok(()),

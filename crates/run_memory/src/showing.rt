@@ -8,9 +8,9 @@ use atomic_methods::Part;
 use call_text::{reply_text, value_word};
 use disk_model::Disk;
 use flusher::Keeper;
-use map_types::Refusal;
+use map_types::{Refusal, Reply};
 use std::alloc::{AllocError, Global};
-use stripe_locks::{Released, Stripes};
+use stripe_locks::Stripes;
 use ticket_order::{Purpose, Steps, Stripe};
 
 /// Tells this sign between what was told and what is told next.
@@ -29,21 +29,15 @@ pub(crate) fn tell_answer(word: &str, answer: Answer, told: &mut String) -> Resu
     }
 }
 
-/// Tells the reply of a call with its position, if it was given out.
-pub(crate) fn tell_released(
+/// Tells the reply of a call with its position.
+pub(crate) fn tell_reply(
     alloc: Global,
-    released: &Released,
+    position: u64,
+    reply: &Reply,
     told: &mut String,
 ) -> Result<(), AllocError> {
-    match released {
-        Released::Reply(position, reply) => {
-            let position = position.number();
-            let text = reply_text(alloc, reply)?;
-            write!(told, "reply {position} {text}")
-        }
-        Released::NotYet(_) => told.push_str("not yet"),
-        Released::Failed => told.push_str("failed"),
-    }
+    let text = reply_text(alloc, reply)?;
+    write!(told, "reply {position} {text}")
 }
 
 /// Tells the entries of a part.

@@ -5,7 +5,7 @@ ghost use Rattle.stripe_locks.specs.Holding.{IsHeldOf};
 ghost use Rattle.stripe_locks.specs.Passes.{recorded, IsPassOf};
 
 use crate::keeping::{Answer, keep, walk};
-use crate::showing::{show_keeper, show_stripes, tell_next, tell_released};
+use crate::showing::{show_keeper, show_stripes, tell_next, tell_reply};
 use crate::steps::{Keeping, Step, Walk, step_of};
 use call_text::Asked;
 use disk_model::MemDisk;
@@ -88,12 +88,14 @@ fn release_one(
     ensures own { IsPassOf stripes.now pass.new }
     ensures waiting { All (IsHeldOf stripes.now) waiting.new.items }
 {
-    let released = stripes.release(pass, held);
-    tell_released(alloc, &released, told)?;
-    if let Released::NotYet(held) = released {
-        waiting.push(held)?;
+    match stripes.release(pass, held) {
+        Released::Reply(position, reply) => tell_reply(alloc, position.number(), &reply, told),
+        Released::NotYet(held) => {
+            waiting.push(held)?;
+            told.push_str("not yet")
+        }
+        Released::Failed => told.push_str("failed"),
     }
-    Ok(())
 }
 
 /// Releases replies by a new pass, and tells what came of each. Returns those that have to wait.
@@ -124,13 +126,14 @@ impl Store {
         };
         let pass = stripes.keeper_pass()?;
         let worker = stripes.pass()?;
+        let held = Vec::with_capacity(alloc, ROOM)?;
         Ok(Store {
             alloc,
             keeper,
             stripes,
             pass,
             worker,
-            held: Vec::with_capacity(alloc, ROOM)?,
+            held,
         })
     }
 
