@@ -1,126 +1,145 @@
-//! Connections of the running store and of the map in memory.
-
+//! Connections of the map in memory.
 use crate::cases::Case;
-use crate::directory::running;
-use crate::host::Host;
 use crate::marks::Marks;
-use anyhow::{Context, Result, anyhow};
 use cmd_mem::Memory;
-use cmd_serve::{NoObserver, Worker};
-use connections::{Calls, ConnectionError, serve_connection};
-use disk_model::{Disk, MemDisk};
-use durable_map::{DurableMap, Ends, flush_loop};
-use run_cases::{bytes_spelled, hexadecimal};
+use connections::serve_connection;
+use disk_model::{Disk, Failure, Fill, MemDisk};
+use map_types::Refusal;
+use run_cases::{Names, hexadecimal, number};
 use std::sync::Wait;
-use std::sync::atomic::{AtomicBool, Ordering};
-use std::thread::join;
 
 /// Room for all replies of a case, so that what is written takes no memory.
 const ROOM: usize = 65536;
 
-/// Ends the loop of a store once its connections are served.
-#[derive(Drop)]
-pub(crate) struct Flag {
-    is_up: AtomicBool,
-}
+/// More device calls than are made before the first change.
+const MANY: u64 = 100;
 
-impl Ends for Flag {
-    fn has_ended(&self) -> bool {
-        self.is_up.load(Ordering::SeqCst)
-    }
-}
+/// The first log of a store.
+const LOG: usize = 2;
 
-/// Prints the replies, and whether the connection broke off.
-fn show_replies<R: AllocGlobal + Print>(
+/// An empty map over a disk. If a number is given, the call behind so many calls fails.
+fn begun<R: AllocGlobal + Wait>(
     rt: &R,
-    replies: &[u8],
-    ended: &Result<(), ConnectionError>,
-) -> Result<()> {
-    let word = if ended.is_ok() { "ended" } else { "broken" };
-    let replies = hexadecimal(rt.alloc(), replies)?;
-    println!(rt; "{word} {replies}")?;
-    Ok(())
-}
-
-/// Serves a connection that sends the bytes of a text.
-fn serve<R: AllocGlobal + Print, C: Calls>(
-    rt: &R,
-    calls: &mut C,
-    text: &str,
-    marks: Marks,
-) -> Result<()> {
-    let frames = bytes_spelled(rt.alloc(), text)?.context("bytes in hexadecimal")?;
-    let mut reader = frames.as_slice();
-    let mut replies = Vec::with_capacity(rt.alloc(), ROOM)?;
-    marks.begin(rt)?;
-    let ended = serve_connection(rt.alloc(), &mut reader, &mut replies, calls);
-    marks.end(rt)?;
-    show_replies(rt, replies.as_slice(), &ended)
-}
-
-/// Serves the first of the case's connections between the marks, and the others behind it.
-fn serve_each<R: AllocGlobal + Print, C: Calls>(
-    rt: &R,
-    calls: &mut C,
-    texts: &[&str],
-) -> Result<()> {
-    let (first, others) = texts.split_first().context("a connection")?;
-    serve(rt, calls, first, Marks::Both)?;
-    for text in others {
-        serve(rt, calls, text, Marks::None)?;
-    }
-    Ok(())
-}
-
-/// Serves the connections of a case over the map in memory.
-pub(crate) fn play_memory<R: AllocGlobal + Print + Wait>(rt: &R, case: &Case<'_>) -> Result<()> {
+    after: Option<u64>,
+) -> Result<Memory<'_, MemDisk, R>, Refusal> {
     let alloc = rt.alloc();
-    match Memory::new(rt, alloc, MemDisk::new(alloc)) {
-        Ok(mut memory) => serve_each(rt, &mut memory, case.called.as_slice()),
-        Err((_disk, refusal)) => Err(anyhow!("refused {refusal}")),
+    let mut disk = MemDisk::new(alloc);
+    if let Some(after) = after {
+        let fill = Fill::New;
+        disk.plan(Some(Failure { after, fill }));
+    }
+    match Memory::new(rt, alloc, disk) {
+        Ok(memory) => Ok(memory),
+        Err((_disk, refusal)) => Err(refusal),
     }
 }
 
-/// Serves the connections of a case by a worker of the running store.
-fn serve_by_worker<D: Disk + Drop, R: Host>(
+/// Serves a connection that sends these bytes. Tells the replies, and whether it broke off.
+fn serve<R: AllocGlobal + Print + Wait>(
     rt: &R,
-    map: &DurableMap<D>,
-    texts: &[&str],
-) -> Result<()> {
-    let mut worker = Worker::new(rt, rt.alloc(), map, &NoObserver, 0)?;
-    serve_each(rt, &mut worker, texts)
+    memory: &mut Memory<'_, MemDisk, R>,
+    frames: &[u8],
+    marks: Marks,
+    told: &mut String,
+) -> Result<(), Refusal> {
+    let alloc = rt.alloc();
+    let mut reader = frames;
+    let mut replies = Vec::with_capacity(alloc, ROOM)?;
+    marks.begin(rt, told)?;
+    let ended = serve_connection(alloc, &mut reader, &mut replies, memory);
+    marks.end(rt)?;
+    let word = if ended.is_ok() { "ended" } else { "broken" };
+    let replies = hexadecimal(alloc, replies.as_slice())?;
+    Ok(write!(told, "{word} {replies}")?)
 }
 
-/// Serves the connections of a case, and ends the loop of the store. Says whether they were served.
-fn work<D: Disk + Drop, R: Host>(rt: &R, map: &DurableMap<D>, texts: &[&str], flag: &Flag) -> bool {
-    let served = serve_by_worker(rt, map, texts);
-    flag.is_up.store(true, Ordering::SeqCst);
-    served.is_ok()
+/// Serves connections one after another, the first with these marks. Tells the end behind each.
+fn serve_each<R: AllocGlobal + Print + Wait>(
+    rt: &R,
+    memory: &mut Memory<'_, MemDisk, R>,
+    names: &Names,
+    texts: &[&str],
+    first: Marks,
+    end: &str,
+    told: &mut String,
+) -> Result<(), Refusal> {
+    let mut marks = first;
+    for text in texts {
+        let frames = names.bytes(rt.alloc(), text)?;
+        serve(rt, memory, frames.as_slice(), marks, told)?;
+        told.push_str(end)?;
+        marks = Marks::None;
+    }
+    Ok(())
 }
 
-/// Serves connections over the running store, beside the loop that commits.
-fn work_beside<D: Disk + Drop + Send, R: Host>(
+/// Serves the connections of a case: the first between the marks, and the others behind it.
+pub(crate) fn play_memory<R: AllocGlobal + Print + Wait>(
     rt: &R,
-    map: &DurableMap<D>,
-    texts: &[&str],
-    flag: &Flag,
-) -> bool {
-    let (_, is_served) = join(
+    case: &Case<'_>,
+    told: &mut String,
+) -> Result<(), Refusal> {
+    let mut memory = begun(rt, None)?;
+    let names = Names::new(rt.alloc());
+    serve_each(
         rt,
-        || flush_loop(rt, map, flag),
-        || work(rt, map, texts, flag),
-    );
-    is_served
+        &mut memory,
+        &names,
+        &case.called,
+        Marks::Both,
+        "\n",
+        told,
+    )
 }
 
-/// Serves the connections of a case over the running store of its directory.
-pub(crate) fn play_worker<R: Host>(rt: &R, case: &Case<'_>) -> Result<()> {
-    let map = running(rt, case)?;
-    let flag = Flag {
-        is_up: AtomicBool::new(false),
-    };
-    if work_beside(rt, &map, case.called.as_slice(), &flag) {
-        return Ok(());
+/// How many device calls are made before the first change. If one of them fails, the map isn't
+/// begun, and is refused with `Failed`.
+fn first_calls<R: AllocGlobal + Wait>(rt: &R) -> Result<u64, Refusal> {
+    for after in 0..MANY {
+        match begun(rt, Some(after)) {
+            Ok(_) => return Ok(after),
+            Err(Refusal::Failed) => {}
+            Err(refusal) => return Err(refusal),
+        }
     }
-    Err(anyhow!("not served"))
+    Err(Refusal::WrongPhase)
+}
+
+/// What is replied to the connections of these words, and how long the log is then.
+fn replies<R: AllocGlobal + Print + Wait>(
+    rt: &R,
+    names: &Names,
+    words: &[&str],
+) -> Result<String, Refusal> {
+    let Some((after, texts)) = words.split_first() else {
+        return Err(Refusal::WrongPhase);
+    };
+    let after = match *after {
+        "-" => None,
+        calls => Some(first_calls(rt)?.saturating_add(number(calls)?)),
+    };
+    let mut memory = begun(rt, after)?;
+    let mut told = String::new(rt.alloc());
+    serve_each(rt, &mut memory, names, texts, Marks::None, "; ", &mut told)?;
+    match memory.into_disk().len(LOG) {
+        Ok(length) => write!(told, "log {length}")?,
+        Err(_) => return Err(Refusal::Failed),
+    }
+    Ok(told)
+}
+
+/// What comes of connections of one map whose disk fails behind so many calls for changes. Of the
+/// word `first` comes how many are made before.
+pub(crate) fn served<R: AllocGlobal + Print + Wait>(
+    rt: &R,
+    names: &Names,
+    input: &str,
+) -> Result<String, Refusal> {
+    let alloc = rt.alloc();
+    if input == "first" {
+        let calls = first_calls(rt)?;
+        return Ok(format!(in alloc; "{calls} calls")?);
+    }
+    let words: Vec<&str> = input.split(' ').collect(alloc)?;
+    replies(rt, names, words.as_slice())
 }

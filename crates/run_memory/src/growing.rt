@@ -2,15 +2,15 @@
 ghost use Rattle.std.specs.Prelude.{◌≡◌};
 ghost use Rattle.bin_table.specs.Tables.{spread_of_key};
 
-use crate::cases::{Case, change_in};
+use crate::cases::Case;
 use crate::marks::Marks;
-use anyhow::{Result, bail};
+use crate::steps::asked_in;
 use bin_table::Node;
 use bin_transfer::Growing;
+use call_text::Asked;
 use java_hash::{hash, spread};
-use map_types::{Change, Command, Key};
+use map_types::{Change, Command, Key, Refusal};
 use std::alloc::Global;
-use std::io;
 
 fn spread_of(key: &Key) -> u32
     ensures { result ≡ spread_of_key key.now }
@@ -19,32 +19,37 @@ fn spread_of(key: &Key) -> u32
 }
 
 /// The entry of a put.
-fn node_in(alloc: Global, text: &str) -> Result<Box<Node>> {
-    let Command { key, change } = change_in(alloc, text)?;
+fn node_in(alloc: Global, text: &str) -> Result<Box<Node>, Refusal> {
+    let Asked::Change(command) = asked_in(alloc, text)? else {
+        return Err(Refusal::WrongPhase);
+    };
+    let Command { key, change } = command;
     match change {
         Change::Put(value) => Ok(Node::new(alloc, key, value)?),
-        _ => bail!("a put is needed"),
+        _ => Err(Refusal::WrongPhase),
     }
 }
 
-/// Makes the growth that is due, as a change does before it adds its key.
-fn grow<R: AllocGlobal + Print>(rt: &R, table: &mut Growing, marks: Marks) -> io::Result<()> {
-    marks.begin(rt)?;
+/// Makes the growth that is due, as a change does before it adds its key. Then adds an entry, and
+/// tells how many bins there are.
+fn add<R: AllocGlobal + Print>(
+    rt: &R,
+    table: &mut Growing,
+    node: Box<Node>,
+    marks: Marks,
+    told: &mut String,
+) -> Result<(), Refusal> {
+    marks.begin(rt, told)?;
     let is_put_off = table.grow(rt.alloc());
     marks.end(rt)?;
     if is_put_off {
-        println!(rt; "put off")?;
+        told.push_str("put off\n")?;
     }
-    Ok(())
-}
-
-/// Adds an entry, and shows how many bins there are then.
-fn add<R: Print>(rt: &R, table: &mut Growing, node: Box<Node>) -> io::Result<()> {
     let spread = spread_of(&node.key);
     drop(table.set(spread, node));
     let bins = table.bins();
     let entries = table.len();
-    println!(rt; "  entries {entries}, bins {bins}")
+    Ok(writeln!(told, "  entries {entries}, bins {bins}")?)
 }
 
 /// Adds the keys of the texts, one after another.
@@ -53,17 +58,21 @@ fn add_each<R: AllocGlobal + Print>(
     table: &mut Growing,
     texts: &[&str],
     marks: Marks,
-) -> Result<()> {
+    told: &mut String,
+) -> Result<(), Refusal> {
     for text in texts {
-        grow(rt, table, marks)?;
-        add(rt, table, node_in(rt.alloc(), text)?)?;
+        add(rt, table, node_in(rt.alloc(), text)?, marks, told)?;
     }
     Ok(())
 }
 
 /// Adds the keys of a case to one stripe.
-pub(crate) fn play_growing<R: AllocGlobal + Print>(rt: &R, case: &Case<'_>) -> Result<()> {
+pub(crate) fn play_growing<R: AllocGlobal + Print>(
+    rt: &R,
+    case: &Case<'_>,
+    told: &mut String,
+) -> Result<(), Refusal> {
     let mut table = Growing::new(rt.alloc(), case.stripes)?;
-    add_each(rt, &mut table, case.state.as_slice(), Marks::None)?;
-    add_each(rt, &mut table, case.called.as_slice(), Marks::Both)
+    add_each(rt, &mut table, case.state.as_slice(), Marks::None, told)?;
+    add_each(rt, &mut table, case.called.as_slice(), Marks::Both, told)
 }

@@ -1,5 +1,5 @@
 //! The lines round a call. `tests/faults.c` knows `begin` and `end`.
-use std::io;
+use map_types::Refusal;
 
 /// What is printed round a call.
 #[derive(Clone, Copy)]
@@ -12,20 +12,32 @@ pub(crate) enum Marks {
     None,
 }
 
+/// Prints the text.
+fn print<R: Print>(rt: &R, text: &str) -> Result<(), Refusal> {
+    match rt.write_all(text.as_bytes()) {
+        Ok(()) => Ok(()),
+        Err(_) => Err(Refusal::Failed),
+    }
+}
+
 impl Marks {
-    /// Prints the line before the call.
-    pub(crate) fn begin<R: Print>(self, rt: &R) -> io::Result<()> {
+    /// Prints what was told before the call, and the line before it.
+    pub(crate) fn begin<R: Print>(self, rt: &R, told: &mut String) -> Result<(), Refusal> {
         match self {
-            Marks::Both => rt.write_all(b"begin\n"),
-            Marks::Again => rt.write_all(b"again\n"),
+            Marks::Both => {
+                print(rt, told.as_str())?;
+                told.clear();
+                print(rt, "begin\n")
+            }
+            Marks::Again => Ok(told.push_str("again\n")?),
             Marks::None => Ok(()),
         }
     }
 
     /// Prints the line behind the call.
-    pub(crate) fn end<R: Print>(self, rt: &R) -> io::Result<()> {
+    pub(crate) fn end<R: Print>(self, rt: &R) -> Result<(), Refusal> {
         match self {
-            Marks::Both => rt.write_all(b"end\n"),
+            Marks::Both => print(rt, "end\n"),
             Marks::Again | Marks::None => Ok(()),
         }
     }

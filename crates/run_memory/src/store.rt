@@ -1,64 +1,51 @@
-//! A store: a keeper over a disk, the stripes of its map, and two passes of them.
+//! A store in memory on one thread: one value, whose steps are made.
 ghost use Rattle.std.specs.Prelude.{◌≡◌, None, IfOk};
+ghost use Rattle.std.specs.List.{All};
 ghost use Rattle.stripe_locks.specs.Holding.{IsHeldOf};
 ghost use Rattle.stripe_locks.specs.Passes.{recorded, IsPassOf};
 
-use crate::cases::{Case, asked_in};
-use crate::showing::{MOST, show_keeper, show_released, show_stripes};
-use anyhow::{Result, bail};
+use crate::keeping::{Answer, keep, walk};
+use crate::showing::{show_keeper, show_stripes, tell_next, tell_reply};
+use crate::steps::{Keeping, Step, Walk, step_of};
 use call_text::Asked;
-use disk_model::Disk;
+use disk_model::MemDisk;
 use flusher::Keeper;
 use java_hash::StripeCount;
 use map_types::Refusal;
-use recovery::{format, open};
-use std::alloc::Global;
-use std::io;
+use recovery::open;
+use run_cases::number;
+use std::alloc::{AllocError, Global};
 use std::marker::Model;
+use std::mem;
 use std::sync::Wait;
-use stripe_locks::{Held, Pass, Stripes};
+use stripe_locks::{Held, Pass, Released, Stripes};
 
-/// How many device calls a batch has.
-pub(crate) const BATCH_CALLS: u32 = 4;
+/// How many replies are held without a request for memory.
+const ROOM: usize = 64;
 
-/// How many device calls write the new log's header and gate, and the end frame of the old one.
-const ROTATION_CALLS: u32 = 6;
-
-/// How many device calls a checkpoint has before its first section.
-const HEAD_CALLS: u32 = 3;
-
-/// The stripe that is swept alone.
-const SWEPT: usize = 1;
-
-/// The stripe whose section is the first of a checkpoint.
-const CAPTURED: usize = 0;
-
-/// A keeper with its pass, and a worker's pass. Between two calls the worker holds no stripe.
+/// A keeper over shared stripes with its pass; and a worker of these stripes, with the replies that
+/// it holds. Between two steps the worker holds no stripe.
 #[derive(Drop)]
-pub(crate) struct Store<D: Disk + Drop> {
-    keeper: Keeper<D>,
+pub(crate) struct Store {
+    alloc: Global,
+    keeper: Keeper<MemDisk>,
     stripes: Stripes,
     pass: Pass,
     worker: Pass,
-    // What the worker's last call is to reply, until that is given out.
-    held: Option<Held>,
+    held: Vec<Held>,
 }
 
-impl<D: Disk + Drop> Model for Store<D> {
-    ghost use Rattle.std.specs.Prelude.{◌≡◌, ℕ, None, IfSome};
-    ghost use Rattle.stripe_locks.specs.Holding.{IsHeldOf};
-    ghost use Rattle.stripe_locks.specs.Passes.{recorded, stripe_count, IsPassOf};
-    ghost use Rattle.flusher.specs.Fitting.{IsKept};
+impl Model for Store {
+    ghost use Rattle.std.specs.Prelude.{ℕ};
+    ghost use Rattle.stripe_locks.specs.Passes.{stripe_count};
+    ghost use Rattle.run_memory.specs.Stores.{IsStore};
 
     ghost Value = { ℕ };
 
     ghost view = { λ store. stripe_count store.stripes };
 
     ghost invariant = { λ store.
-        IsPassOf store.stripes store.pass × IsPassOf store.stripes store.worker
-        × ((recorded store.worker).holding ≡ None) × IfSome store.held (IsHeldOf store.stripes)
-        × IsKept D.states D.honest (stripe_count store.stripes) store.keeper
-        (recorded store.pass) };
+        IsStore store.keeper store.stripes store.pass store.worker store.held.items };
 }
 
 /// Makes a call of a pass. A change waits for a stripe that is held only if it is to wait.
@@ -86,166 +73,154 @@ fn call_by<R: Wait>(
     }
 }
 
-/// Prints the reply of a call, by a new pass.
-fn release_by_another<R: AllocGlobal + Print>(rt: &R, stripes: &Stripes, held: Held) -> Result<()>
-    requires { IsHeldOf stripes.now held }
+/// Releases a reply by the pass, and tells what came of it. Holds it on if it has to wait.
+fn release_one(
+    alloc: Global,
+    stripes: &Stripes,
+    pass: &mut Pass,
+    held: Held,
+    waiting: &mut Vec<Held>,
+    told: &mut String,
+) -> Result<(), AllocError>
+    requires own { IsPassOf stripes.now pass.old }
+    requires held { IsHeldOf stripes.now held }
+    requires waiting { All (IsHeldOf stripes.now) waiting.old.items }
+    ensures own { IsPassOf stripes.now pass.new }
+    ensures waiting { All (IsHeldOf stripes.now) waiting.new.items }
 {
-    let mut pass = stripes.pass()?;
-    show_released(rt, &stripes.release(&mut pass, held))
+    match stripes.release(pass, held) {
+        Released::Reply(position, reply) => tell_reply(alloc, position.number(), &reply, told),
+        Released::NotYet(held) => {
+            waiting.push(held)?;
+            told.push_str("not yet")
+        }
+        Released::Failed => told.push_str("failed"),
+    }
 }
 
-impl<D: Disk + Drop> Store<D> {
+/// Releases replies by a new pass, and tells what came of each. Returns those that have to wait.
+fn release_all(
+    alloc: Global,
+    stripes: &Stripes,
+    all: Vec<Held>,
+    told: &mut String,
+) -> Result<Vec<Held>, Refusal>
+    requires { All (IsHeldOf stripes.now) all.items }
+    ensures { IfOk result (λ waiting. All (IsHeldOf stripes.now) waiting.items) }
+{
+    let mut pass = stripes.pass()?;
+    let mut waiting = Vec::with_capacity(alloc, ROOM)?;
+    for held in all {
+        tell_next(", ", told)?;
+        release_one(alloc, stripes, &mut pass, held, &mut waiting, told)?;
+    }
+    Ok(waiting)
+}
+
+impl Store {
     /// Opens the disk, and takes the keeper's pass and a worker's.
-    fn opened(alloc: Global, disk: D, count: StripeCount) -> Result<Store<D>, Refusal> {
+    pub(crate) fn open(alloc: Global, disk: MemDisk, count: StripeCount) -> Result<Store, Refusal> {
         let (keeper, stripes) = match open(alloc, disk, count) {
             Ok(opened) => opened,
             Err((_disk, refusal)) => return Err(refusal),
         };
         let pass = stripes.keeper_pass()?;
         let worker = stripes.pass()?;
+        let held = Vec::with_capacity(alloc, ROOM)?;
         Ok(Store {
+            alloc,
             keeper,
             stripes,
             pass,
             worker,
-            held: None,
+            held,
         })
     }
 
-    /// Makes the disk that of an empty map, opens it, and makes the changes of the case.
-    pub(crate) fn new<R: AllocGlobal + Wait>(rt: &R, disk: D, case: &Case<'_>) -> Result<Store<D>> {
-        let mut disk = disk;
-        format(rt.alloc(), &mut disk, case.stripes)?;
-        let mut store = Store::opened(rt.alloc(), disk, case.stripes)?;
-        store.call_each(rt, case.state.as_slice())?;
-        Ok(store)
+    /// The disk, which the store no longer needs.
+    pub(crate) fn into_disk(self) -> MemDisk {
+        let Store {
+            alloc: _,
+            keeper,
+            stripes: _stripes,
+            pass: _pass,
+            worker: _worker,
+            held: _held,
+        } = self;
+        keeper.into_disk()
     }
 
-    /// Makes each of the calls.
-    fn call_each<R: AllocGlobal + Wait>(&mut self, rt: &R, texts: &[&str]) -> Result<()> {
-        for text in texts {
-            self.call(rt, asked_in(rt.alloc(), text)?, false)?;
-        }
-        Ok(())
-    }
-
-    /// Makes a call of the worker, and returns its position. What it is to reply is kept.
-    pub(crate) fn call<R: Wait>(
-        &mut self,
-        rt: &R,
-        asked: Asked,
-        is_to_wait: bool,
-    ) -> Result<u64, Refusal> {
+    /// Makes a call of the worker, and holds its reply: its position.
+    fn call<R: Wait>(&mut self, rt: &R, asked: Asked, is_to_wait: bool) -> Answer {
         let held = call_by(rt, &self.stripes, &mut self.worker, asked, is_to_wait)?;
         let position = held.position().number();
-        self.held = Some(held);
+        self.held.push(held)?;
         Ok(position)
     }
 
-    /// Prints the reply of the worker's last call.
-    pub(crate) fn release<R: AllocGlobal + Print>(&mut self, rt: &R) -> Result<()> {
-        match self.held.take() {
-            Some(held) => release_by_another(rt, &self.stripes, held),
-            None => bail!("no reply is kept"),
-        }
+    /// Makes a call of a new pass, and gives up its reply: its position.
+    fn call_by_another<R: Wait>(&self, rt: &R, asked: Asked) -> Answer {
+        let mut pass = self.stripes.pass()?;
+        let held = call_by(rt, &self.stripes, &mut pass, asked, false)?;
+        Ok(held.position().number())
     }
 
-    /// Sweeps all stripes.
-    pub(crate) fn sweep<R: Wait>(&mut self, rt: &R) -> Result<u64, Refusal> {
+    /// Makes a step of the keeper's files.
+    fn keep(&mut self, keeping: Keeping) -> Answer {
+        keep(&mut self.keeper, keeping)
+    }
+
+    /// Makes a step of the keeper over the stripes.
+    fn walk<R: Wait>(&mut self, rt: &R, step: Walk) -> Answer {
         let mut steps = self.stripes.at(&mut self.pass);
-        self.keeper.sweep(rt, &mut steps)
+        walk(rt, &mut self.keeper, &mut steps, step)
     }
 
-    /// Sweeps one stripe, and returns its number.
-    fn sweep_one(&mut self) -> Result<u64, Refusal> {
-        if self.keeper.is_walking() || SWEPT >= self.stripes.stripes().get() {
-            return Err(Refusal::WrongPhase);
-        }
-        let mut steps = self.stripes.at(&mut self.pass);
-        self.keeper.try_sweep(SWEPT, &mut steps)?;
-        Ok(SWEPT as u64)
-    }
-
-    /// Stages what is in hand.
-    pub(crate) fn stage(&mut self) -> Result<u64, Refusal> {
-        let staged = self.keeper.stage_batch(MOST)?;
-        Ok(u64::from(staged))
-    }
-
-    /// Makes the next device call of the log.
-    fn advance(&mut self) {
-        let _phase = self.keeper.advance();
-    }
-
-    /// Makes `times` device calls of the log.
-    pub(crate) fn advance_times(&mut self, times: u32) {
-        for _ in 0..times {
-            self.advance();
+    /// Makes a step: what it answers.
+    pub(crate) fn make<R: Wait>(&mut self, rt: &R, step: Step) -> Answer {
+        match step {
+            Step::Call(asked) => self.call(rt, asked, false),
+            Step::WaitingCall(asked) => self.call(rt, asked, true),
+            Step::CallByAnother(asked) => self.call_by_another(rt, asked),
+            Step::Keep(keeping) => self.keep(keeping),
+            Step::Walk(step) => self.walk(rt, step),
         }
     }
 
-    /// Publishes what is committed.
-    fn publish(&mut self) -> Result<(), Refusal> {
-        if self.keeper.is_walking() {
-            return Err(Refusal::WrongPhase);
+    /// Makes the step that is written so; before a `*` stands how often. Returns its last answer.
+    pub(crate) fn take<R: Wait>(&mut self, rt: &R, text: &str) -> Answer {
+        let (times, text) = text.split_once('*').unwrap_or(("1", text));
+        let mut answer = Ok(0);
+        for _ in 0..number(times)? {
+            answer = self.make(rt, step_of(self.alloc, text)?);
         }
-        let mut steps = self.stripes.at(&mut self.pass);
-        self.keeper.publish(&mut steps);
-        Ok(())
+        answer
     }
 
-    /// Commits and publishes all that the stripes have.
-    pub(crate) fn commit_all<R: Wait>(&mut self, rt: &R) -> Result<(), Refusal> {
-        self.sweep(rt)?;
-        self.stage()?;
-        self.advance_times(BATCH_CALLS);
-        self.publish()
-    }
-
-    /// Makes the next device call of the checkpoint.
-    fn write(&mut self) {
-        let _phase = checkpoint_walk::advance(&mut self.keeper);
-    }
-
-    /// Begins a checkpoint with its log, and makes its device calls up to the first section.
-    pub(crate) fn begin_checkpoint(&mut self) -> Result<(), Refusal> {
-        checkpoint_walk::begin(&mut self.keeper)?;
-        self.advance_times(ROTATION_CALLS);
-        for _ in 0..HEAD_CALLS {
-            self.write();
+    /// Makes the steps that are written so.
+    pub(crate) fn take_each<R: Wait>(&mut self, rt: &R, texts: &[&str]) -> Result<(), Refusal> {
+        for text in texts {
+            self.take(rt, text)?;
         }
         Ok(())
     }
 
-    /// Captures a stripe. It waits for a stripe that is held only if it is to wait.
-    fn capture<R: Wait>(&mut self, rt: &R, is_to_wait: bool) -> Result<u64, Refusal> {
-        if self.keeper.is_walking() {
-            return Err(Refusal::WrongPhase);
-        }
-        let mut steps = self.stripes.at(&mut self.pass);
-        if is_to_wait {
-            return checkpoint_walk::capture(&mut self.keeper, rt, CAPTURED, &mut steps);
-        }
-        checkpoint_walk::try_capture(&mut self.keeper, CAPTURED, &mut steps)
+    /// Has a new pass release the worker's replies: what came of each. The worker holds on those
+    /// that have to wait.
+    pub(crate) fn release(&mut self) -> Result<String, Refusal> {
+        let mut told = String::new(self.alloc);
+        let held = mem::replace(&mut self.held, Vec::new(self.alloc));
+        self.held = release_all(self.alloc, &self.stripes, held, &mut told)?;
+        Ok(told)
     }
 
-    /// Makes the call of the keeper that the word names.
-    pub(crate) fn keep<R: Wait>(&mut self, rt: &R, word: &str) -> Result<u64, Refusal> {
-        match word {
-            "sweep" => self.sweep(rt),
-            "try_sweep" => self.sweep_one(),
-            "stage_batch" => self.stage(),
-            _ => self.capture(rt, word == "capture"),
-        }
+    /// Tells what stands in the stripes.
+    pub(crate) fn show_stripes(&self, told: &mut String) -> Result<(), Refusal> {
+        show_stripes(self.alloc, &self.stripes, told)
     }
 
-    /// Prints what stands in the stripes.
-    pub(crate) fn show_stripes<R: AllocGlobal + Print>(&self, rt: &R) -> Result<()> {
-        show_stripes(rt, &self.stripes)
-    }
-
-    /// Prints what stands in the keeper.
-    pub(crate) fn show_keeper<R: Print>(&self, rt: &R) -> io::Result<()> {
-        show_keeper(rt, &self.keeper)
+    /// Tells what stands in the keeper.
+    pub(crate) fn show_keeper(&self, told: &mut String) -> Result<(), AllocError> {
+        show_keeper(&self.keeper, told)
     }
 }
