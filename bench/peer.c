@@ -5,8 +5,8 @@
  *     peer FILE SYNCS  makes a batch's device calls before the replies: `bench/serve --batches` measures what they allow
  *
  * A batch writes a frame into the file, over zeros that are there, and syncs it; with two syncs it then writes a gate, and
- * syncs that. Its thread takes in the requests of all connections first, for as long as a batch gathers at most, and looks
- * for them again and again before it sleeps. So no server with these calls for each batch is much faster.
+ * syncs that. Its one thread takes in the requests of all connections first, for as long as a batch gathers at most, and looks
+ * for them again and again before it sleeps.
  */
 #define _GNU_SOURCE
 #include <arpa/inet.h>
@@ -23,15 +23,15 @@
 #include <unistd.h>
 
 enum { ROOM = 1 << 18, MOST_EVENTS = 64, METHOD_PUT = 16, METHOD_MERGE = 25 };
-/* A frame's front, a record of a Put of a number, and how many records the frame has at most. */
-enum { FRONT_BYTES = 17, RECORD_BYTES = 22, MOST_RECORDS = 65536, FILE_BYTES = 1 << 23 };
+/* A frame's front, a record of a Put of a number, and how many of them a frame of 1,048,576 bytes has. */
+enum { FRONT_BYTES = 17, RECORD_BYTES = 22, MOST_RECORDS = ((1 << 20) - FRONT_BYTES) / RECORD_BYTES, FILE_BYTES = 1 << 23 };
 enum { GATHERING_MICROSECONDS = 60, LOOKING_MICROSECONDS = 50 };
 
 struct connection {
     int socket;
     size_t len, out_len;
     struct connection *next; /* the next one with replies that wait */
-    unsigned char in[ROOM], out[3 * ROOM];
+    unsigned char in[ROOM], out[4 * ROOM];
 };
 
 static struct {
@@ -74,14 +74,16 @@ static void answer(struct connection *connection) {
         size_t body = (size_t)connection->in[at] << 8 | connection->in[at + 1];
         if (connection->len - at < body + 2) break;
         connection->out_len += put_reply(connection->in[at + 2], connection->out + connection->out_len);
-        file.records += file.records < MOST_RECORDS;
+        file.records += connection->in[at + 2] >= METHOD_PUT && file.records < MOST_RECORDS;
         at += body + 2;
     }
     memmove(connection->in, connection->in + at, connection->len - at);
     connection->len -= at;
 }
 
+/* Takes in what a connection sends. One whose replies wait is read behind them. */
 static void read_in(struct connection *connection) {
+    if (connection->out_len) return;
     ssize_t len = recv(connection->socket, connection->in + connection->len, ROOM - connection->len, 0);
     if (len <= 0) {
         close(connection->socket);
@@ -98,7 +100,7 @@ static void read_in(struct connection *connection) {
 }
 
 static void write_and_sync(const unsigned char *bytes, size_t len) {
-    check((int)pwrite(file.fd, bytes, len, file.end), "write");
+    check(pwrite(file.fd, bytes, len, file.end) == (ssize_t)len ? 0 : -1, "write");
     check(fdatasync(file.fd), "sync");
     file.end += (off_t)len;
 }
@@ -126,7 +128,7 @@ static void open_file(const char *path, unsigned syncs) {
     file.fd = open(path, O_RDWR | O_CREAT, 0600);
     file.syncs = syncs;
     check(file.fd, "open");
-    check((int)pwrite(file.fd, zeros, sizeof zeros, 0), "write");
+    check(pwrite(file.fd, zeros, sizeof zeros, 0) == sizeof zeros ? 0 : -1, "write");
     check(fsync(file.fd), "sync");
 }
 
@@ -144,6 +146,7 @@ static void add(int epoll, int socket, struct connection *connection) {
 static void take_in(int epoll, int listener) {
     struct connection *connection = calloc(1, sizeof *connection);
     int yes = 1;
+    check(connection ? 0 : -1, "calloc");
     connection->socket = accept(listener, NULL, NULL);
     check(connection->socket, "accept");
     setsockopt(connection->socket, IPPROTO_TCP, TCP_NODELAY, &yes, sizeof yes);
@@ -179,6 +182,7 @@ int main(int count, char **words) {
     struct sockaddr_in address = {.sin_family = AF_INET, .sin_addr.s_addr = htonl(INADDR_LOOPBACK)};
     socklen_t len = sizeof address;
     int listener = socket(AF_INET, SOCK_STREAM, 0), epoll = epoll_create1(0);
+    if (count != 1 && count != 3) return 2;
     if (count == 3) open_file(words[1], (unsigned)atoi(words[2]));
     check(bind(listener, (struct sockaddr *)&address, sizeof address), "bind");
     check(listen(listener, 128), "listen");

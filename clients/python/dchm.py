@@ -122,15 +122,15 @@ class Calls:
         return self._call(merge_request(key, function, value))
 
     def count(self) -> int:
-        """How many keys have a value. The server copies its whole map for it."""
+        """How many keys have a value. The server asks each stripe of its map."""
         return self._call(count_request())
 
     def reduce(self, function: Function, threshold: int = 0) -> int | None:
-        """All values folded by SUM, MAX or MIN, or None of an empty map. It costs as much as count."""
+        """All values folded by SUM, MAX or MIN, or None of an empty map. The server goes over its whole map."""
         return self._call(reduce_request(function, threshold))
 
     def search(self, value: Value, threshold: int = 0) -> str | None:
-        """The least key, by its bytes, with this value, or None. It costs as much as count."""
+        """The least key, by its bytes, with this value, or None. The server goes over its whole map."""
         return self._call(search_request(value, threshold))
 
 

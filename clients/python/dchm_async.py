@@ -224,15 +224,15 @@ class AsyncClient:
         return await self._call(wire.merge_request(key, function, value))
 
     async def count(self) -> int:
-        """How many keys have a value. The server copies its whole map for it, and what follows waits."""
+        """How many keys have a value. The server asks each stripe of its map, and what follows waits."""
         return await self._call(wire.count_request())
 
     async def reduce(self, function: Function, threshold: int = 0) -> int | None:
-        """All values folded by SUM, MAX or MIN, or None of an empty map. It costs as much as count."""
+        """All values folded by SUM, MAX or MIN, or None of an empty map. The server goes over its map, and what follows waits."""
         return await self._call(wire.reduce_request(function, threshold))
 
     async def search(self, value: Value, threshold: int = 0) -> str | None:
-        """The least key, by its bytes, with this value, or None. It costs as much as count."""
+        """The least key, by its bytes, with this value, or None. The server goes over its map, and what follows waits."""
         return await self._call(wire.search_request(value, threshold))
 
     async def update(self, key: str, function: Callable[[Value | None], Value | None]) -> Value | None:

@@ -272,10 +272,10 @@ public final class DchmMap<V> implements ConcurrentMap<String, V> {
         }
     }
 
-    // ---- the whole map, of which the server makes a copy
+    // ---- the whole map
 
     /**
-     * How many keys have a value. The server copies its whole map for it, and a connection of its own makes it.
+     * How many keys have a value. The server asks each stripe of its map, and a connection of its own makes the call.
      *
      * @return the number
      */
@@ -304,7 +304,7 @@ public final class DchmMap<V> implements ConcurrentMap<String, V> {
     }
 
     /**
-     * Whether a key has this value. It costs as much as {@link #mappingCount}.
+     * Whether a key has this value. The server goes over its whole map.
      *
      * @param value the value
      * @return whether there is one
@@ -316,7 +316,7 @@ public final class DchmMap<V> implements ConcurrentMap<String, V> {
     }
 
     /**
-     * The least key, by its bytes, that has this value. It costs as much as {@link #mappingCount}.
+     * The least key, by its bytes, that has this value. The server goes over its whole map.
      *
      * @param value the value
      * @return the key, or null
@@ -326,7 +326,7 @@ public final class DchmMap<V> implements ConcurrentMap<String, V> {
     }
 
     /**
-     * Folds all values by a function. It costs as much as {@link #mappingCount}.
+     * Folds all values by a function. The server goes over its whole map.
      *
      * @param function SUM, MAX or MIN
      * @return the result, empty if the map is
