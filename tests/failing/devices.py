@@ -4,7 +4,7 @@ import os
 import resource
 import time
 
-from failing.rooms import CONNECTIONS, NEVER, REQUESTS, SMALL, STRIPES, Fault, check, none_refused, room, work
+from failing.rooms import CONNECTIONS, TO_THE_END, REQUESTS, SMALL, STRIPES, Fault, check, none_refused, room, work
 from harness.counters import COUNTERS, FAILED, values_of
 from harness.servers import Connection, Dchm, kill
 from harness.suite import wait_until
@@ -103,7 +103,7 @@ def a_start_on_a_full_disk():
             kill(child)
         files = here.files()
         # No checkpoint begins, so that the first write is that of the first change.
-        with here.served(Fault("write", "ENOSPC", last=NEVER), STRIPES) as (child, port):
+        with here.served(Fault("write", "ENOSPC", last=TO_THE_END), STRIPES) as (child, port):
             total = sum(values_of(port).values())
             check(total == CONNECTIONS * REQUESTS, f"the counters have {total} of {CONNECTIONS * REQUESTS}")
             clients += work(port, 1)
@@ -126,7 +126,7 @@ def failures(is_all):
         first = 1 if call == "write" else 6
         for shift, how in enumerate(("EIO", "torn", "ENOSPC")):
             stride = 1 if is_all else 2 if how == "EIO" else 8
-            last = NEVER if how == "ENOSPC" else 0
+            last = TO_THE_END if how == "ENOSPC" else 0
             for number in range(first + (shift + place) % stride, LAST_CALL + 1, stride):
                 yield Fault(call, how, first=number, last=last)
         for name in ("ckpt-a", "ckpt-b", "log-b"):
@@ -140,7 +140,7 @@ def troubles(is_all):
             for number in range(1, LAST_CALL // 2, 1 if is_all else 9):
                 yield Fault(call, how, first=number if call == "write" else number + 5)
     # Each call twice: what is tried again is the second one.
-    yield Fault("write", "short", last=NEVER)
+    yield Fault("write", "short", last=TO_THE_END)
 
 
 def device_cases(is_all):

@@ -2,7 +2,7 @@
 import contextlib
 import os
 
-from failing.rooms import NEVER, REQUESTS, STRIPES, Fault, Wrong, check, room, work
+from failing.rooms import TO_THE_END, REQUESTS, STRIPES, Fault, Wrong, check, room, work
 from harness.counters import COUNTERS, values_of
 from harness.files import OLD_FILES, OLD_FILES_ROTATED, write_files
 from harness.servers import Connection, Dchm, first_line, free_port, kill, process
@@ -94,7 +94,7 @@ def opening_with_absent_files():
         for name in ("ckpt-b", "log-b"):
             os.remove(os.path.join(here.directory, name))
         # The lock and `ckpt-a` are there, and are opened first.
-        found = starts(here, Fault("open", "ENOSPC", first=3, last=NEVER))
+        found = starts(here, Fault("open", "ENOSPC", first=3, last=TO_THE_END))
         check(found is None, f"it listens, and the counters have {found}")
         check(here.page.counts().faults > 0, "no call went wrong")
         found = starts(here, None)
@@ -174,10 +174,10 @@ def formatting(call, how, last):
 def opening_cases():
     for call in ("sync", "read", "open", "look"):
         yield f"opening: EIO at each {call}", lambda call=call: opening(call, "EIO")
-    for fault in (Fault("read", "EINTR", first=2), Fault("sync", "EINTR", first=3), Fault("read", "short", last=NEVER)):
+    for fault in (Fault("read", "EINTR", first=2), Fault("sync", "EINTR", first=3), Fault("read", "short", last=TO_THE_END)):
         yield f"opening in spite of {fault}", lambda fault=fault: opening_in_spite(fault)
     yield "opening: absent files on a full disk", opening_with_absent_files
-    for call, how, last in (("sync", "EIO", 0), ("write", "EIO", 0), ("write", "torn", 0), ("write", "ENOSPC", NEVER)):
+    for call, how, last in (("sync", "EIO", 0), ("write", "EIO", 0), ("write", "torn", 0), ("write", "ENOSPC", TO_THE_END)):
         name = f"{how} at each {call}{' and all behind it' if last else ''}"
         yield f"init: {name}", lambda call=call, how=how, last=last: formatting(call, how, last)
         for files, newest in ((OLD_FILES, "log-b"), (OLD_FILES_ROTATED, "log-a")):

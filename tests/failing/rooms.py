@@ -5,7 +5,7 @@ import os
 import threading
 
 from harness.counters import COUNTERS, Client, faults_of, values_of
-from harness.faulty import Page
+from harness.faulty import NEVER, Page
 from harness.files import GATE, read_files
 from harness.places import read
 from harness.servers import Connection, Dchm, dchm, kill, run_program, temporary_directory
@@ -16,7 +16,8 @@ REQUESTS = 30
 # With few stripes and a small log a checkpoint has few calls, and checkpoints and other logs come soon.
 STRIPES = ("--stripes", "4")
 SMALL = (*STRIPES, "--checkpoint-bytes", "1024")
-NEVER = 1 << 62
+# No call has this number.
+TO_THE_END = 1 << 62
 
 
 class Wrong(Exception):
@@ -48,7 +49,7 @@ class Fault:
 
     def __str__(self):
         place = f" of {self.file}" if self.file else ""
-        behind = " and all behind it" if self.last == NEVER else ""
+        behind = " and all behind it" if self.last == TO_THE_END else ""
         return f"{self.how} at {self.call} {self.first}{place}{behind}"
 
 
@@ -72,7 +73,7 @@ class Room:
 
     def refuse_no_memory(self):
         if self.page:
-            self.page.refuse_memory(False)
+            self.page.refuse_memory(NEVER)
 
     def run(self, *words, fault=None):
         """One run of the program: its status, standard output and standard error."""

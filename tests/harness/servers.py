@@ -234,11 +234,13 @@ def connect_to(place):
 
 
 def send_to_end(client, pieces):
-    """Sends the pieces, and then no more, unless the server has ended the connection."""
+    """Sends the pieces, and then no more, unless the server has ended the connection. So too if no piece can be made."""
     with contextlib.suppress(OSError):
-        for piece in pieces:
-            client.sendall(piece)
-        client.shutdown(socket.SHUT_WR)
+        try:
+            for piece in pieces:
+                client.sendall(piece)
+        finally:
+            client.shutdown(socket.SHUT_WR)
 
 
 def read_to_end(client):
@@ -254,8 +256,10 @@ def replies_at(place, pieces):
     """What the server replies to these pieces over a connection of their own. It is read while they are sent."""
     with contextlib.closing(Connection(Dchm, place)) as connection:
         with concurrent.futures.ThreadPoolExecutor(1) as sender:
-            sender.submit(send_to_end, connection.socket, pieces)
-            return read_to_end(connection.socket)
+            sent = sender.submit(send_to_end, connection.socket, pieces)
+            replies = read_to_end(connection.socket)
+            sent.result()
+            return replies
 
 
 def takes_connections(place):

@@ -8,6 +8,7 @@ OLD_VERSION, VERSION = 1, 2
 
 
 def record_bytes(version, text):
+    """The record of a change in the files of a version."""
     name, key, *words = text.split(" ")
     words = [bytes([FUNCTIONS[word]]) if word in FUNCTIONS else plain.value_bytes(value_in(word)) for word in words]
     return files.record(Method[name], key, b"".join(words), plain.FILE_KEY_WIDTHS[version])

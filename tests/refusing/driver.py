@@ -5,16 +5,16 @@ import os
 from harness.servers import run_program
 from refusing.cases import Case, puts
 from refusing.expected import BROKEN, READERS, calls_of, is_device_failure
-from refusing.rooms import NONE, Kind, Told, refuse_in_turn
+from refusing.rooms import ERRORS, NONE, Kind, Told, fault_in, refuse_in_turn
 
 
 def run(room, line, number):
-    """What the program prints for a case behind its line, with the request of this number refused."""
+    """What the program prints for a case behind its line, with the request of this number refused. It has to end well."""
     with open(os.path.join(room.place, "cases"), "w", encoding="utf-8") as cases:
         cases.write(line + "\n")
     status, printed, said = run_program(room.program, "cases", cwd=room.place, env=room.environment(number))
     if status:
-        return [f"status {status}: {said.strip()}", *printed.splitlines()]
+        raise RuntimeError(f"status {status}: {said.strip()}, behind {printed.splitlines()[-1:]}")
     return printed.splitlines()[1:]
 
 
@@ -58,7 +58,7 @@ def bytes_of_growth(room, count):
     return [], room.page.sizes()[served[0] - 1]
 
 
-def bins_rows(room):
+def bins_faults(room):
     """Growths to 2, 4, 8 and 16 bins ask for twice as much each. If the seventh key's is put off, the eighth makes it."""
     faults, sizes = [], []
     for count in (1, 2, 3, 6):
@@ -79,3 +79,11 @@ def bins_rows(room):
     if sorted(room.page.sizes()) != sorted([*ample, sizes[-1]]):
         faults.append(f"the growth to 16 bins isn't asked for again: {room.page.sizes()}")
     return faults
+
+
+def bins_rows(room):
+    """What is wrong with the growths, also where a run of them goes wrong."""
+    try:
+        return bins_faults(room)
+    except ERRORS as error:
+        return [fault_in(error)]

@@ -159,6 +159,8 @@ READERS = {
 
 def is_device_failure(case, lines):
     """Whether a write or a sync of the disk in memory found no memory, which is a failure of the device."""
+    if len(lines) < 3:
+        return False
     if case.word == "format_memory":
         # A gate that was opened and not synced is found open by the next format.
         _, lengths = format_of(case).served[2:]

@@ -1,22 +1,21 @@
 """The cases of directories that are opened and formatted, while a request of the program for memory is refused."""
 import contextlib
 import functools
-import subprocess
 
-from harness import opening, plain
+from harness import opening
 from harness.faulty import NEVER, NOW, ONCE_IT_LISTENS
 from harness.places import read
 from harness.plain import Method
 from harness.servers import Connection, Dchm, dchm, first_line, free_port, kill, process, run_program
 from refusing.cases import Store
 from refusing.directories import OLD_VERSION, VERSION, first_files, later_files
+from refusing.expected import NO_MEMORY, NO_MEMORY_REPLY
 from refusing.rooms import Kind, Told, refuse_in_turn
 from refusing.served import ask_anew, reads_of, replies_of, serve, stream_of
 
-NO_MEMORY = "refused 7 NoMemory"
 REFUSED = 1
-# What each client of a server asks that starts its threads, and how many there are then.
-FIRST = (Method.count, None, ())
+# What each client of a server asks that starts its threads, and how many there are behind the first.
+COUNT = (Method.count, None, ())
 CLIENTS = 9
 END_SECONDS = 60
 
@@ -37,15 +36,15 @@ def fault_of_refusal(status, printed, said):
 
 def served(room, case, number):
     """What a server replies to the reads of the case, if it listens; and else what is wrong with its end."""
-    port, errors = free_port(), room.directory + ".errors"
+    port = free_port()
     words = [room.program, "serve", room.directory, "--port", str(port), "--stripes", str(case.stripes)]
-    with open(errors, "wb"), process(words, errors, environment=room.environment(number, NOW)) as child:
+    with process(words, room.errors, environment=room.environment(number, NOW)) as child:
         if first_line(child) == b"listening %d\n" % port:
             reads = ask_anew(port, reads_of(case))
             kill(child)
             return reads, None
         status = child.wait(END_SECONDS)
-    return None, fault_of_refusal(status, "", read(errors))
+    return None, fault_of_refusal(status, "", read(room.errors))
 
 
 def fault_of_files(room, case, before, wanted):
@@ -71,11 +70,8 @@ def serve_once(room, case, number):
     """A server that is refused a request before it says that it listens."""
     before, wanted = files_of(case), replies_of(Store(case).map.entries, reads_of(case))
     room.make(before)
-    try:
-        reads, fault = served(room, case, number)
-        fault = fault or fault_of_files(room, case, before, wanted)
-    except (OSError, RuntimeError, subprocess.SubprocessError, plain.Refused) as error:
-        return Kind.REFUSED, f"{type(error).__name__}: {error}"
+    reads, fault = served(room, case, number)
+    fault = fault or fault_of_files(room, case, before, wanted)
     if reads is None:
         return Kind.REFUSED, fault
     return Kind.SERVED, fault or (None if reads == wanted else f"it replies {reads.hex()}, not {wanted.hex()}")
@@ -93,6 +89,7 @@ def check_once(room, case, number):
 
 
 def lengths(room):
+    """How many bytes each file has that is there."""
     return {name: len(content) for name, content in room.files().items()}
 
 
@@ -116,49 +113,51 @@ def init_once(room, case, number):
 def fault_of_server(room, port, child, wanted):
     """What is wrong with a server that starts its threads, and with its end if it has ended.
 
-    What its first client is told is told in time, and later ones are served.
+    Its first client is told the reply, that memory is wanting, or nothing, and in time. Later ones are served.
     """
     try:
-        ask_anew(port, [FIRST])
+        first = ask_anew(port, [COUNT])
+        if first not in (wanted, NO_MEMORY_REPLY, b""):
+            return f"its first client is told {first.hex()}, not {wanted.hex()}"
         room.page.refuse_memory(NEVER)
         with contextlib.ExitStack() as stack:
             clients = [stack.enter_context(contextlib.closing(Connection(Dchm, port))) for _ in range(CLIENTS)]
-            replies = [client.exchange(stream_of([FIRST])) for client in clients]
+            replies = [client.exchange(stream_of([COUNT])) for client in clients]
     except ConnectionError:
-        return fault_of_refusal(child.wait(END_SECONDS), "", read(room.directory + ".errors"))
+        return fault_of_refusal(child.wait(END_SECONDS), "", read(room.errors))
     return None if set(replies) == {wanted} else f"replies {[reply.hex() for reply in replies]}, not {wanted.hex()}"
 
 
 def start_once(room, case, number, workers):
     """A server that is refused a request behind the line that says that it listens, as it starts its threads."""
-    before, wanted = files_of(case), replies_of(Store(case).map.entries, [FIRST])
+    before, wanted = files_of(case), replies_of(Store(case).map.entries, [COUNT])
     room.make(before)
     environment = room.environment(number, ONCE_IT_LISTENS)
-    try:
-        with dchm(room.program, room.directory, workers, environment=environment) as (child, port):
-            fault = fault_of_server(room, port, child, wanted)
-            kind = Kind.SERVED if child.poll() is None else Kind.REFUSED
-    except (OSError, RuntimeError, subprocess.SubprocessError) as error:
-        return Kind.REFUSED, f"{type(error).__name__}: {error}"
+    with dchm(room.program, room.directory, workers, environment=environment) as (child, port):
+        fault = fault_of_server(room, port, child, wanted)
+        kind = Kind.SERVED if child.poll() is None else Kind.REFUSED
     return kind, fault or (None if room.files() == before else "files were changed")
 
 
-def try_runs(room, case, *runs):
-    """Refuses each request of these runs of the program in turn."""
+def try_runs(room, case, plays):
+    """Refuses each request of these runs of the program in turn; each of them says of some that memory is wanting."""
     told = Told()
-    for play in runs:
+    for name, play in plays.items():
+        before = len(told.numbers[Kind.REFUSED])
         refuse_in_turn(room, told, lambda number, play=play: play(room, case, number))
+        if not told.faults and len(told.numbers[Kind.REFUSED]) == before:
+            told.faults.append(f"{name}: no request was refused")
     return told
 
 
 def try_opening(room, case):
-    return try_runs(room, case, serve_once, check_once)
+    return try_runs(room, case, {"serve": serve_once, "check": check_once})
 
 
 def try_start(room, case):
     """By few workers, as the clients are more than one of them is given at first."""
-    return try_runs(room, case, *(functools.partial(start_once, workers=workers) for workers in (1, 2)))
+    return try_runs(room, case, {f"workers {count}": functools.partial(start_once, workers=count) for count in (1, 2)})
 
 
 def try_init(room, case):
-    return try_runs(room, case, init_once)
+    return try_runs(room, case, {"init": init_once})

@@ -4,6 +4,7 @@ import dataclasses
 import string
 
 from harness import frames, opening, plain
+from harness.faulty import NEVER
 from harness.frames import body_of, frame
 from harness.plain import Method
 from harness.servers import Connection, Dchm, dchm, read_to_end, send_to_end
@@ -145,17 +146,14 @@ def fault_behind(case, outcomes, again, left, reads):
 def try_number(room, case, outcomes, number):
     """One run: what kind it was, and what is wrong. Other connections are served behind it, and then by the next server."""
     room.make(first_files(case.state, case.stripes))
-    try:
-        with serve(room, case, room.environment(number)) as (_, port):
-            replies = ASKERS[case.word](room, port, requests_of(case))
-            room.page.refuse_memory(False)
-            reads = ask_anew(port, reads_of(case))
-            again = ask_anew(port, requests_of(case))
-        left = opening.opened(list(room.files().values()))
-        with serve(room, case) as (_, port):
-            reads_behind = ask_anew(port, reads_of(case))
-    except (OSError, RuntimeError, plain.Refused) as error:
-        return Kind.SERVED, f"{type(error).__name__}: {error}"
+    with serve(room, case, room.environment(number)) as (_, port):
+        replies = ASKERS[case.word](room, port, requests_of(case))
+        room.page.refuse_memory(NEVER)
+        reads = ask_anew(port, reads_of(case))
+        again = ask_anew(port, requests_of(case))
+    left = opening.opened(list(room.files().values()))
+    with serve(room, case) as (_, port):
+        reads_behind = ask_anew(port, reads_of(case))
     came = [outcome for outcome in outcomes
             if outcome.replies == replies and reads == replies_of(outcome.entries, reads_of(case))]
     if not came:

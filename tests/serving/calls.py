@@ -3,13 +3,14 @@ import contextlib
 import itertools
 import os
 import random
+import unittest
 
 from harness import files, frames, plain
 from harness.at_random import random_call
 from harness.frames import body_of, frame
 from harness.plain import Method
 from harness.servers import dchm, replies_at
-from serving.runs import PROGRAM, Process
+from serving.runs import PREFIX_RECORD, PROGRAM, Process
 
 VERSION = 2
 # Each key is put twice, in batches. So more changes are due at once than are made at a time, and some are left at the end.
@@ -68,6 +69,7 @@ class Calls(Process):
         requests = [(Method.get, key_of(number), ()) for number in range(KEYS)]
         with dchm(PROGRAM, self.directory, workers) as (_, port):
             came = replies_at(port, [frame(body_of(request)) for request in requests])
+            self.assertRegex(self.records(), "^" + PREFIX_RECORD.format(CHANGES) + "\n$")
         last = [frames.reply_bytes(plain.NOW, number) for number in range(CHANGES - KEYS, CHANGES)]
         self.check_replies(requests, came, b"".join(last))
 
@@ -75,6 +77,7 @@ class Calls(Process):
         with one_processor():
             self.check_long_log(1)
 
+    @unittest.skipIf(len(os.sched_getaffinity(0)) == 1, "there is one processor")
     def test_a_long_log_that_a_thread_for_each_processor_opens(self):
         self.check_long_log(4)
 
