@@ -2,8 +2,9 @@
 import dataclasses
 
 from harness import frames, plain
-from harness.words import reply_text
-from refusing.cases import Store
+from harness.plain import Method
+from harness.words import reply_text, word_of
+from refusing.cases import Store, request_named
 
 SWEPT_STRIPE = 1
 NO_MEMORY = "refused 7 NoMemory"
@@ -149,11 +150,48 @@ def growing_of(case):
     return Expected(printed(False), [printed(True)])
 
 
+def view_of(case):
+    """A refused view leaves each stripe free, and draws no ticket."""
+    store = Store(case)
+    count = len(store.map.entries)
+    marks = " ".join([str(len(store.log))] * case.stripes)
+    reads = [f"reply {position} {reply_text(*reply)}" for position, reply in map(store.call, case.called)]
+    served = [f"viewed, marks {marks}, entries {count}", *reads]
+    return Expected(["begin", "end", *served], [again(["begin", "end"], reads, served)])
+
+
+def viewed_line(method, status, value):
+    """The line of what a view returned."""
+    if method == Method.count:
+        return f"counted {value}"
+    if method == Method.search:
+        return f"found {'none' if value is None else value}"
+    return f"reduced {reply_text(status, value) if status == plain.FAULT else word_of(value)}"
+
+
+def asked_of(case):
+    """A search that finds no memory for its key is refused, and the view stays. Nothing else takes memory."""
+    entries = Store(case).map.entries
+    questions = [request_named(text) for text in case.called]
+    answers = [(method, *plain.viewed(entries, method, arguments)) for method, _, arguments in questions]
+
+    def printed(refused_number):
+        lines = []
+        for number, answer in enumerate(answers):
+            served = [viewed_line(*answer)]
+            lines += again(["begin", "end"], [], served) if number == refused_number else ["begin", "end", *served]
+        return lines
+
+    found = [number for number, (method, _, key) in enumerate(answers) if method == Method.search and key is not None]
+    return Expected(printed(None), [printed(number) for number in found])
+
+
 READERS = {
     "try_call": calls_of, "call": calls_of, "try_read": calls_of,
     "sweep": sweep_of, "try_sweep": sweep_of, "stage_batch": sweep_of,
     "capture": capture_of, "try_capture": capture_of,
     "format_memory": format_of, "memory": connection_of, "growing": growing_of,
+    "view": view_of, "asked_of_view": asked_of,
 }
 
 

@@ -16,15 +16,20 @@ mod playing;
 mod showing;
 mod steps;
 mod store;
+mod views;
 
 use crate::marked::play_line;
 use crate::playing::NamedCases;
 use run_cases::told_of;
 use std::sync::Wait;
+use std::thread::Threads;
 use std::{env, fs, io};
 
 /// Plays the lines of a file, each of which prints what is told of it.
-fn play_lines<R: AllocGlobal + Print + Wait>(rt: &R, text: &str) -> io::Result<()> {
+fn play_lines<R: AllocGlobal + Print + Wait + Threads + Sync>(
+    rt: &R,
+    text: &str,
+) -> io::Result<()> {
     for line in text.lines() {
         play_line(rt, line)?;
     }
@@ -32,7 +37,11 @@ fn play_lines<R: AllocGlobal + Print + Wait>(rt: &R, text: &str) -> io::Result<(
 }
 
 /// Plays the cases of the file of this name.
-fn play_file<R: AllocGlobal + Print + Wait>(rt: &R, file: &str, text: &str) -> io::Result<()> {
+fn play_file<R: AllocGlobal + Print + Wait + Threads + Sync>(
+    rt: &R,
+    file: &str,
+    text: &str,
+) -> io::Result<()> {
     if file != "keeper" && file != "memory_map" {
         return play_lines(rt, text);
     }

@@ -7,11 +7,13 @@ use crate::marks::Marks;
 use crate::showing::tell_answer;
 use crate::steps::step_of;
 use crate::store::Store;
+use crate::views::{play_asked, play_view};
 use disk_model::MemDisk;
 use map_types::Refusal;
 use recovery::format;
 use std::io;
 use std::sync::Wait;
+use std::thread::Threads;
 
 /// All that the stripes have is committed and published.
 const COMMIT: [&str; 4] = ["sweep", "stage", "4*log", "publish"];
@@ -83,6 +85,13 @@ fn with_state<R: AllocGlobal + Wait>(rt: &R, case: &Case<'_>) -> Result<Store, R
         store.take(rt, change.as_str())?;
     }
     Ok(store)
+}
+
+/// The disk of a store with the state of a case, which is committed.
+fn committed<R: AllocGlobal + Wait>(rt: &R, case: &Case<'_>) -> Result<MemDisk, Refusal> {
+    let mut store = with_state(rt, case)?;
+    store.take_each(rt, &COMMIT)?;
+    Ok(store.into_disk())
 }
 
 /// Makes a call of the worker, and tells its reply once that is durable.
@@ -174,7 +183,7 @@ fn play_capture<R: AllocGlobal + Print + Wait>(
 
 /// Plays the case of a line, by the word of what it calls. What is told of it stands behind what was
 /// printed.
-fn play<R: AllocGlobal + Print + Wait>(
+fn play<R: AllocGlobal + Print + Wait + Threads + Sync>(
     rt: &R,
     line: &str,
     told: &mut String,
@@ -191,12 +200,17 @@ fn play<R: AllocGlobal + Print + Wait>(
         "format_memory" => play_format(rt, &case, told),
         "memory" => play_memory(rt, &case, told),
         "growing" => play_growing(rt, &case, told),
+        "view" => play_view(rt, &case, committed(rt, &case)?, told),
+        "asked_of_view" => play_asked(rt, &case, committed(rt, &case)?, told),
         _ => Err(Refusal::WrongPhase),
     }
 }
 
 /// Plays the case of a line, and prints what is told of it.
-pub(crate) fn play_line<R: AllocGlobal + Print + Wait>(rt: &R, line: &str) -> io::Result<()> {
+pub(crate) fn play_line<R: AllocGlobal + Print + Wait + Threads + Sync>(
+    rt: &R,
+    line: &str,
+) -> io::Result<()> {
     if line.is_empty() || line.starts_with('#') {
         return Ok(());
     }
