@@ -105,6 +105,18 @@ def format_of(case):
     return Expected(["begin", "end", *served], [again(["begin", "end"], ["  lengths 0 0 0 0"], served)])
 
 
+def opening_of(case):
+    """A refused opening hands the disk back, with which the next one opens. It makes the changes of the log again."""
+    growths = growths_in(Store(dataclasses.replace(case, line=f"{case.word} {case.stripes}")), case.state)
+    store = Store(case)
+    store.sweep(range(case.stripes))
+    lines = store.stripe_lines()
+    if case.word == "open_parts":
+        lines = [f"  part {stripe}:{store.words(stripe)}" for stripe in range(case.stripes)]
+    served = [f"opened {len(case.state)}", *lines]
+    return Expected(["begin", "end", *served], [again(["begin", "end"], [], served)], growths)
+
+
 def frames_in(stream):
     read = plain.Bytes(stream)
     while read.rest():
@@ -190,7 +202,7 @@ READERS = {
     "try_call": calls_of, "call": calls_of, "try_read": calls_of,
     "sweep": sweep_of, "try_sweep": sweep_of, "stage_batch": sweep_of,
     "capture": capture_of, "try_capture": capture_of,
-    "format_memory": format_of, "memory": connection_of, "growing": growing_of,
+    "open": opening_of, "open_parts": opening_of, "format_memory": format_of, "memory": connection_of, "growing": growing_of,
     "view": view_of, "asked_of_view": asked_of,
 }
 

@@ -12,6 +12,7 @@ mod keeping;
 mod lives;
 mod marked;
 mod marks;
+mod openings;
 mod playing;
 mod showing;
 mod steps;

@@ -4,6 +4,7 @@ use crate::connection::play_memory;
 use crate::formatting::play_format;
 use crate::growing::play_growing;
 use crate::marks::Marks;
+use crate::openings::play_opening;
 use crate::showing::tell_answer;
 use crate::steps::step_of;
 use crate::store::Store;
@@ -198,6 +199,7 @@ fn play<R: AllocGlobal + Print + Wait + Threads + Sync>(
         "capture" => play_capture(rt, &case, "capture 0", told),
         "try_capture" => play_capture(rt, &case, "try_capture 0", told),
         "format_memory" => play_format(rt, &case, told),
+        "open" | "open_parts" => play_opening(rt, &case, committed(rt, &case)?, told),
         "memory" => play_memory(rt, &case, told),
         "growing" => play_growing(rt, &case, told),
         "view" => play_view(rt, &case, committed(rt, &case)?, told),
