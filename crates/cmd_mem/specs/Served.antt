@@ -20,7 +20,7 @@ use Rattle.flusher.specs.Fitting.{HasSeenMore, IsQuiet, IsTakenFront, WereTaken}
 use Rattle.log_records.specs.Layout.{layout_of}
 use Rattle.store_layout.specs.Hands.{FitsBatch}
 use Rattle.store_layout.specs.Logs.{most_commands}
-use Rattle.flusher.specs.KeeperSteps.{is_too_long, is_walking}
+use Rattle.flusher.specs.KeeperSteps.{is_too_long}
 use Rattle.wire_frames.specs.declared.requests.Request.{Request}
 use Rattle.wire_frames.specs.declared.requests.Request.TheVariants.{Change, Read, Bulk}
 use Rattle.connections.specs.Dialogue.{Answer}
@@ -31,7 +31,6 @@ pub record IsIdle {D : Type 0} (keeper : Keeper D) : Type 0 where
   pub unfailed : keeper.has_failed ≡ false
   pub resting : IsResting keeper.log
   pub alone : keeper.next ≡ None
-  pub still : is_walking keeper.sweeper.walking ≡ false
 
 -- No call was added. A request of the whole map is no method here: it is always refused so, and the pass makes no step.
 abbrev pub Refuses : ℕ → Record → Request → Refusal → Record → Type 0

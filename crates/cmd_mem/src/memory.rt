@@ -2,25 +2,27 @@
 ghost use Rattle.std.specs.Prelude.{◌≡◌, IfOk, IfErr, None, false};
 ghost use Rattle.ticket_order.specs.declared.record.Record.{Record};
 ghost use Rattle.ticket_order.specs.StepRules.{IsOfSamePass};
-ghost use Rattle.flusher.specs.Fitting.{IsBeside, IsKept, IsUnused};
+ghost use Rattle.flusher.specs.Fitting.{IsKept, IsUnused};
+ghost use Rattle.flusher.specs.KeeperSteps.{is_walking};
 ghost use Rattle.recovery.specs.LogReading.{IsResumed};
-ghost use Rattle.stripe_locks.specs.Passes.{begun_with, recorded, stripe_count, IsPassOf};
+ghost use Rattle.stripe_locks.specs.Passes.{begun_with, stripe_count};
 ghost use Rattle.cmd_mem.specs.Maps.{CannotBegin, CannotOpen, IsEmpty, Leaves, nothing_yet};
-ghost use Rattle.cmd_mem.specs.Served.{BegunIsServed, Begins, Ends, IsCallOf, IsIdle, Makes, PassGoesOn, Refuses, StillMade, fails};
+ghost use Rattle.cmd_mem.specs.Served.{BegunIsServed, Begins, Ends, IsCallOf, IsIdle, PassGoesOn, StillMade, fails};
 
 use crate::committing::give_out;
 use connections::Calls;
 use disk_model::{Disk, MemDisk};
 use flusher::{Keeper, laws as keeper_laws};
 use java_hash::StripeCount;
+use journal::{Journal, OwnSteps, laws as journal_laws};
 use map_types::{Refusal, Reply};
 use recovery::{format, open};
 use std::alloc::Global;
 use std::marker::Model;
-use std::sync::Wait;
+use std::sync::{Arc, Wait};
 use store_layout::laws as layout_laws;
-use stripe_locks::{Pass, Stripes};
-use ticket_order::{Held, Steps, try_call, try_read};
+use stripe_locks::Stripes;
+use ticket_order::{Held, Steps};
 use wire_frames::Request;
 
 /// A map of 16 stripes in memory, with a keeper whose log lies on a disk. The keeper's pass makes the
@@ -33,17 +35,15 @@ use wire_frames::Request;
 pub struct Memory<'a, D: Disk + Drop, R: Wait> {
     rt: &'a R,
     alloc: Global,
-    stripes: Stripes,
-    pass: Pass,
-    keeper: Keeper<D>,
+    journal: Journal<D, OwnSteps>,
     has_failed: bool,
 }
 
 impl<'a, D: Disk + Drop, R: Wait> Model for Memory<'a, D, R> {
+    ghost use Rattle.std.specs.Arc.{arc_value};
     ghost use Rattle.std.specs.Prelude.{◌≡◌, false};
-    ghost use Rattle.stripe_locks.specs.Passes.{recorded, stripe_count, IsPassOf};
+    ghost use Rattle.stripe_locks.specs.Passes.{recorded, stripe_count};
     ghost use Rattle.cmd_mem.specs.Maps.{MapState};
-    ghost use Rattle.flusher.specs.Fitting.{IsKept};
     ghost use Rattle.cmd_mem.specs.Served.{IsIdle};
     ghost use Rattle.ticket_order.specs.contracts.record.Record as record_type;
     ghost use Rattle.std.specs.Coded.{codes};
@@ -54,93 +54,57 @@ impl<'a, D: Disk + Drop, R: Wait> Model for Memory<'a, D, R> {
 
     ghost view = { λ memory.
         record {
-          stripes = stripe_count memory.stripes;
-          pass = recorded memory.pass;
-          log = memory.keeper.log;
+          stripes = stripe_count (arc_value memory.journal.steps.stripes);
+          pass = recorded memory.journal.steps.pass;
+          log = memory.journal.keeper.log;
           has_failed = memory.has_failed;
         } };
 
-    ghost invariant = { λ memory. IsPassOf memory.stripes memory.pass
-        × IsKept D.states D.honest (stripe_count memory.stripes) memory.keeper
-        (recorded memory.pass) × (memory.has_failed ≡ false → IsIdle memory.keeper) };
+    ghost invariant = { λ memory. memory.has_failed ≡ false → IsIdle memory.journal.keeper };
 }
 
 /// Makes the call of a request. A request of the whole map is refused as an unknown method.
-fn make<S: Steps>(steps: &mut S, alloc: Global, request: Request) -> Result<Held, Refusal>
-    // The pass holds no stripe.
-    requires free { (S.recorded steps.old).holding ≡ None }
+fn make<D: Disk, S: Steps>(
+    journal: &mut Journal<D, S>,
+    alloc: Global,
+    request: Request,
+) -> Result<Held, Refusal>
+    // The call was made or refused, and each that was made before stays made.
+    ensures begins { Begins (S.stripe_count journal.old.steps) (S.recorded journal.old.steps)
+        request result (S.recorded journal.new.steps) }
+    ensures made { IfOk result (IsCallOf (S.recorded journal.new.steps)) }
+    ensures others { StillMade (S.recorded journal.old.steps) (S.recorded journal.new.steps) }
 
-    // The call is made, and the record grows by it; or it is refused.
-    ensures ok { IfOk result (λ held.
-        Makes (S.stripe_count steps.old) (S.recorded steps.old) request held.position held.reply
-        (S.recorded steps.new)) }
-    ensures err { IfErr result (λ refusal.
-        Refuses (S.stripe_count steps.old) (S.recorded steps.old) request refusal
-        (S.recorded steps.new)) }
-
-    // The pass holds no stripe again, and made no step of the keeper's.
-    ensures free { (S.recorded steps.new).holding ≡ None }
-    ensures beside { IsBeside (S.recorded steps.old) (S.recorded steps.new) }
-    ensures pass { IsOfSamePass S.place S.stripe_count steps.old steps.new }
+    // The keeper stays, in the same pass.
+    ensures same { journal.new.keeper ≡ journal.old.keeper }
+    ensures pass { IsOfSamePass S.place S.stripe_count journal.old.steps journal.new.steps }
 {
     match request {
-        Request::Change(command) => try_call(steps, alloc, command),
-        Request::Read(read) => try_read(steps, read),
+        Request::Change(command) => journal.try_call(alloc, command),
+        Request::Read(read) => journal.try_read(read),
         Request::Bulk(_) => Err(Refusal::UnknownMethod),
     }
 }
 
-/// Begins the call of a request beside the keeper.
-fn begin_beside<S: Steps, D: Disk>(
-    steps: &mut S,
-    alloc: Global,
-    keeper: &Keeper<D>,
-    request: Request,
-) -> Result<Held, Refusal>
-    // The keeper rests between two commits, and its invariant holds.
-    requires idle { IsIdle keeper.now }
-    requires kept { IsKept D.states D.honest (S.stripe_count steps.old)
-        keeper.now (S.recorded steps.old) }
-
-    // The call was made or refused, and each that was made before stays made.
-    ensures begins { Begins (S.stripe_count steps.old) (S.recorded steps.old)
-        request result (S.recorded steps.new) }
-    ensures made { IfOk result (IsCallOf (S.recorded steps.new)) }
-    ensures others { StillMade (S.recorded steps.old) (S.recorded steps.new) }
-
-    // The keeper goes on.
-    ensures kept { IsKept D.states D.honest (S.stripe_count steps.new)
-        keeper.now (S.recorded steps.new) }
-    ensures pass { IsOfSamePass S.place S.stripe_count steps.old steps.new }
-{
-    keeper_laws::pass_goes_on(keeper);
-    make(steps, alloc, request)
-}
-
 /// Finishes a call that was begun, over a map that has not failed.
-fn end_beside<S: Steps, D: Disk, R: Wait>(
+fn end<D: Disk, S: Steps, R: Wait>(
     rt: &R,
-    steps: &mut S,
-    keeper: &mut Keeper<D>,
+    journal: &mut Journal<D, S>,
     held: Held,
 ) -> Result<Reply, Refusal>
-    // The keeper rests between two commits, and its invariant holds.
-    requires idle { IsIdle keeper.old }
-    requires kept { IsKept D.states D.honest (S.stripe_count steps.old)
-        keeper.old (S.recorded steps.old) }
+    // The keeper rests between two commits.
+    requires idle { IsIdle journal.old.keeper }
 
     // The reply was given out or is withheld, and each call that was made stays made.
-    ensures ends { Ends (S.recorded steps.old) held result
-        (S.recorded steps.new) keeper.new.log }
-    ensures others { StillMade (S.recorded steps.old) (S.recorded steps.new) }
+    ensures ends { Ends (S.recorded journal.old.steps) held result
+        (S.recorded journal.new.steps) journal.new.keeper.log }
+    ensures others { StillMade (S.recorded journal.old.steps) (S.recorded journal.new.steps) }
 
-    // The keeper goes on.
-    ensures works { fails result ≡ false → IsIdle keeper.new }
-    ensures kept { IsKept D.states D.honest (S.stripe_count steps.new)
-        keeper.new (S.recorded steps.new) }
-    ensures pass { IsOfSamePass S.place S.stripe_count steps.old steps.new }
+    // The keeper rests so again unless the map has failed, in the same pass.
+    ensures works { fails result ≡ false → IsIdle journal.new.keeper }
+    ensures pass { IsOfSamePass S.place S.stripe_count journal.old.steps journal.new.steps }
 {
-    give_out(rt, steps, keeper, held)
+    give_out(rt, journal, held)
 }
 
 /// A call that was begun and then finished with a reply was made, and its own entry is committed,
@@ -154,6 +118,8 @@ pub fn begun_are_served()
 fn open_new<D: Disk + Drop>(alloc: Global, disk: D) -> Result<(Keeper<D>, Stripes), (D, Refusal)>
     // 16 stripes and a keeper at rest; on an honest disk the map is empty.
     ensures idle { IfOk result (λ x. IsIdle x.0) }
+    ensures still { IfOk result (λ x. is_walking x.0.sweeper.walking ≡ false) }
+    ensures over { IfOk result (λ x. x.0.capture ≡ None) }
     ensures stripes { IfOk result (λ x. stripe_count x.1 ≡ 16) }
     ensures log { IfOk result (λ x. IsResumed x.0.log
         × (x.0.log.committed ≡ (begun_with x.1).first)) }
@@ -180,10 +146,10 @@ fn open_new<D: Disk + Drop>(alloc: Global, disk: D) -> Result<(Keeper<D>, Stripe
 }
 
 impl<'a, R: Wait> Memory<'a, MemDisk, R> {
-    /// An empty map, over a disk in memory that is made that of an empty map and opened. Refuses
-    /// with `AlreadyFormatted` if a checkpoint is sealed there, with `Failed` exactly if a device
-    /// call fails, with `NoMemory`, and with `SeatsSpent` if the stripes have no keeper's pass. If
-    /// it refuses, the disk is handed back.
+    /// An empty map, over a disk in memory that is made that of an empty map and opened. It refuses
+    /// with `AlreadyFormatted` only if a checkpoint is sealed there, with `Failed` only if a device
+    /// call has failed, with `SeatsSpent` only if the stripes have no keeper's pass, and else with
+    /// `NoMemory`. If it refuses, the disk is handed back.
     pub fn new(
         rt: &'a R,
         alloc: Global,
@@ -195,16 +161,13 @@ impl<'a, R: Wait> Memory<'a, MemDisk, R> {
             refused.0) }
     {
         let (keeper, stripes) = open_new(alloc, disk)?;
-        let pass = match stripes.keeper_pass() {
-            Ok(pass) => pass,
-            Err(refusal) => return Err((keeper.into_disk(), refusal)),
+        let Ok(stripes) = Arc::new(alloc, stripes) else {
+            return Err((keeper.into_disk(), Refusal::NoMemory));
         };
         Ok(Memory {
             rt,
             alloc,
-            stripes,
-            pass,
-            keeper,
+            journal: Journal::over(keeper, stripes)?,
             has_failed: false,
         })
     }
@@ -215,16 +178,15 @@ impl<D: Disk + Drop, R: Wait> Memory<'_, D, R> {
     pub fn into_disk(self) -> D
         ensures { D.honest result → Leaves D.states self.entry result }
     {
-        keeper_laws::stops_of_a_keeper(&self.keeper);
+        journal_laws::journals_rest(&self.journal);
+        keeper_laws::stops_of_a_keeper(self.journal.keeper());
         let Memory {
             rt: _,
             alloc: _,
-            stripes: _stripes,
-            pass: _pass,
-            keeper,
+            journal,
             has_failed: _,
         } = self;
-        keeper.into_disk()
+        journal.into_disk()
     }
 }
 
@@ -246,23 +208,21 @@ impl<D: Disk + Drop, R: Wait> Calls for Memory<'_, D, R> {
         if self.has_failed {
             return Err(Refusal::Failed);
         }
-        let mut steps = self.stripes.at(&mut self.pass);
-        let begun = begin_beside(&mut steps, self.alloc, &self.keeper, request);
+        let begun = make(&mut self.journal, self.alloc, request);
         self.has_failed = matches!(begun, Err(Refusal::Failed));
         begun
     }
 
     /// The first call of a row that is finished commits all that were begun.
     fn may_finish(&self, held: &Held) -> bool {
-        held.position().number() <= self.keeper.committed()
+        held.position().number() <= self.journal.keeper().committed()
     }
 
     fn finish(&mut self, held: Held) -> Result<Reply, Refusal> {
         if self.has_failed {
             return Err(Refusal::Failed);
         }
-        let mut steps = self.stripes.at(&mut self.pass);
-        let answer = end_beside(self.rt, &mut steps, &mut self.keeper, held);
+        let answer = end(self.rt, &mut self.journal, held);
         self.has_failed = matches!(answer, Err(Refusal::Failed));
         answer
     }

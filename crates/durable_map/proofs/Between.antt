@@ -1,4 +1,4 @@
--- What the calls that make no device call leave of a keeper that was between its walks.
+-- What the calls that make no device call leave of what was captured and sealed.
 use Rattle.std.proofs.Common.{◌≡◌, ℕ, List, Option, None, Some, Result, Ok, Err, IfOk, IfErr, OnOk, OnErr, Bool, true, false, refl, sym, ap, subst, ◌∙◌}
 use Rattle.disk_model.specs.Files.{Files}
 use Rattle.map_types.specs.declared.refusals.Refusal.{Refusal}
@@ -20,27 +20,25 @@ use Rattle.durable_map.specs.LockedKeepers.{Keeps, KeepsSealed}
 use Rattle.durable_map.proofs.Sections.{CapturesNone, missed, not_captured, not_swept, stay_legal}
 use Rattle.durable_map.proofs.Sections as sections
 
--- Neither a sweep nor a capture walks, what was captured are parts of the history, and the sealed checkpoint is kept.
+-- What was captured are parts of the history, and the sealed checkpoint is kept.
 pub record IsBetween {D : Type 0} (states : D → List Files) (honest : D → Type 0) (n : ℕ) (keeper : Keeper D) (p : Record) : Type 0 where
-  pub still : is_walking keeper.sweeper.walking ≡ false
-  pub over : keeper.capture ≡ None
   pub captured : AllLegalSections n p p.sections
   pub sealed : KeepsSealed states honest keeper
 
 pub of_kept : {D : Type 0} (states : D → List Files) (honest : D → Type 0) (n : ℕ) (keeper : Keeper D) (p : Record) → Keeps states honest n keeper p → IsBetween states honest n keeper p
-of_kept states honest n keeper p k = record { still = k.still; over = k.over; captured = k.captured; sealed = k.sealed }
+of_kept states honest n keeper p k = record { captured = k.captured; sealed = k.sealed }
 
 module _ {D : Type 0} (states : D → List Files) (honest : D → Type 0) (n stripe : ℕ) (old new : Keeper D) (p w : Record) (b : IsBetween states honest n old p) where
   gives : (mark : ℕ) → GivesSection n p stripe mark old new w → IsBetween states honest n new w
-  gives mark k = subst (λ (x : Keeper D). IsBetween states honest n x w) (sym k.is) (record { still = b.still; over = refl; captured = sections.captured n stripe mark p w k.entries k.captures b.captured; sealed = b.sealed })
+  gives mark k = subst (λ (x : Keeper D). IsBetween states honest n x w) (sym k.is) (record { captured = sections.captured n stripe mark p w k.entries k.captures b.captured; sealed = b.sealed })
 
   puts_back : (e : Refusal) → PutsBack p stripe e old new w → IsBetween states honest n new w
-  puts_back e k = subst (λ (x : Keeper D). IsBetween states honest n x w) (sym k.is) (record { still = b.still; over = refl; captured = stay_legal n p w (not_captured stripe p w e k.back) b.captured; sealed = b.sealed })
+  puts_back e k = subst (λ (x : Keeper D). IsBetween states honest n x w) (sym k.is) (record { captured = stay_legal n p w (not_captured stripe p w e k.back) b.captured; sealed = b.sealed })
 
   misses : (i : ℕ) → MissesStripe stripe i old new p w → IsBetween states honest n new w
   misses i k =
       let legal : AllLegalSections n w w.sections = subst (λ (x : Record). AllLegalSections n x x.sections) (sym k.missed) (stay_legal n p (missing p stripe) (missed p stripe) b.captured) in
-      subst (λ (x : Keeper D). IsBetween states honest n x w) (sym k.is) (record { still = b.still; over = b.over; captured = legal; sealed = b.sealed })
+      subst (λ (x : Keeper D). IsBetween states honest n x w) (sym k.is) (record { captured = legal; sealed = b.sealed })
 
   stays : StaysAt old new p w → IsBetween states honest n new w
   stays k = subst (λ (x : Keeper D). IsBetween states honest n x w) (sym k.keeper) (subst (λ (x : Record). IsBetween states honest n old x) (sym k.record_is) b)
@@ -71,7 +69,7 @@ module _ {D : Type 0} (states : D → List Files) (honest : D → Type 0) (n str
   captured (Err e) ok err = refused e err
 
   gathers : CapturesNone p w → new ≡ record old { sweeper = record old.sweeper { in_hand = new.sweeper.in_hand } } → IsBetween states honest n new w
-  gathers k same = subst (λ (x : Keeper D). IsBetween states honest n x w) (sym same) (record { still = b.still; over = b.over; captured = stay_legal n p w k b.captured; sealed = b.sealed })
+  gathers k same = subst (λ (x : Keeper D). IsBetween states honest n x w) (sym same) (record { captured = stay_legal n p w k b.captured; sealed = b.sealed })
 
   pub swept : {A : Type 0} (result : Result A Refusal) → OnOk result (SweepsOnce n stripe old.sweeper.in_hand new.sweeper.in_hand p w) → IfErr result (λ e. RefusesSweep p stripe e w)
       → new ≡ record old { sweeper = record old.sweeper { in_hand = new.sweeper.in_hand } } → IsBetween states honest n new w
@@ -84,7 +82,7 @@ module _ {D : Type 0} (states : D → List Files) (honest : D → Type 0) (n : �
   published false is publishes stops =
       let k = publishes is in
       let legal : AllLegalSections n w w.sections = subst (λ (x : Record). AllLegalSections n x x.sections) (sym k.0) (stay_legal n p (publishing p old.log.committed) (sections.published p old.log.committed) b.captured) in
-      subst (λ (x : Keeper D). IsBetween states honest n x w) (sym k.1) (record { still = b.still; over = b.over; captured = legal; sealed = b.sealed })
+      subst (λ (x : Keeper D). IsBetween states honest n x w) (sym k.1) (record { captured = legal; sealed = b.sealed })
   published true is publishes stops =
       let k = stops is in
       subst (λ (x : Keeper D). IsBetween states honest n x w) (sym k.1) (subst (λ (x : Record). IsBetween states honest n old x) (sym k.0) b)
@@ -92,28 +90,4 @@ module _ {D : Type 0} (states : D → List Files) (honest : D → Type 0) (n : �
   pub failed : w ≡ failing p → new ≡ record old { has_failed = true } → IsBetween states honest n new w
   failed record_is is =
       let legal : AllLegalSections n w w.sections = subst (λ (x : Record). AllLegalSections n x x.sections) (sym record_is) (stay_legal n p (failing p) (sections.failed p) b.captured) in
-      subst (λ (x : Keeper D). IsBetween states honest n x w) (sym is) (record { still = b.still; over = b.over; captured = legal; sealed = b.sealed })
-
-  pub begun : new ≡ record old { next = new.next; checkpoint = new.checkpoint } → IsBetween states honest n new p
-  begun same = subst (λ (x : Keeper D). IsBetween states honest n x p) (sym same) (record { still = b.still; over = b.over; captured = b.captured; sealed = b.sealed })
-
-  pub sealing_is : {A : Type 0} (result : Result A Refusal) → OnOk result (new ≡ record old { checkpoint = sealing old.checkpoint }) → OnErr result (new ≡ old) → IsBetween states honest n new p
-  sealing_is (Ok x) ok err = subst (λ (x : Keeper D). IsBetween states honest n x p) (sym ok) (record { still = b.still; over = b.over; captured = b.captured; sealed = b.sealed })
-  sealing_is (Err e) ok err = subst (λ (x : Keeper D). IsBetween states honest n x p) (sym err) b
-
--- ---- a step of the logs leaves no sweep walking
-
-hand_past : (next : Option LogState) (phase : Phase) (old new : Sweeper) (staged left : List Entry) → IsPast next phase old staged new left → is_walking old.walking ≡ false → is_walking new.walking ≡ false
-hand_past (Some l) phase old new staged left k still = ap (λ (x : Sweeper). is_walking x.walking) k.0 ∙ still
-hand_past None Idle old new staged left k still = ap (λ (x : Sweeper). is_walking x.walking) k.0 ∙ still
-hand_past None Header old new staged left k still = ap (λ (x : Sweeper). is_walking x.walking) k.0 ∙ still
-hand_past None HeaderWritten old new staged left k still = ap (λ (x : Sweeper). is_walking x.walking) k.0 ∙ still
-hand_past None Staged old new staged left k still = ap (λ (x : Sweeper). is_walking x.walking) k.0 ∙ still
-hand_past None Written old new staged left k still = ap (λ (x : Sweeper). is_walking x.walking) k.0 ∙ still
-hand_past None Synced old new staged left k still = ap (λ (x : Sweeper). is_walking x.walking) k.0 ∙ still
-hand_past None Opened old new staged left k still = ap (λ (x : Sweeper). is_walking x.walking) k.0 ∙ still
-
-pub past : {D A : Type 0} (old new : Keeper D) (result : Result A Refusal) → OnOk result (IsPast old.next old.log.phase old.sweeper old.staged.items new.sweeper new.staged.items)
-    → OnErr result ((new.sweeper ≡ old.sweeper) × (new.staged ≡ old.staged) × (new.is_broken ≡ true)) → is_walking old.sweeper.walking ≡ false → is_walking new.sweeper.walking ≡ false
-past old new (Ok x) hand kept still = hand_past old.next old.log.phase old.sweeper new.sweeper old.staged.items new.staged.items hand still
-past old new (Err e) hand kept still = ap (λ (x : Sweeper). is_walking x.walking) kept.0 ∙ still
+      subst (λ (x : Keeper D). IsBetween states honest n x w) (sym is) (record { captured = legal; sealed = b.sealed })

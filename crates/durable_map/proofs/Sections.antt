@@ -14,6 +14,9 @@ use Rattle.ticket_order.specs.Legality.{IsLegalSection, history_of}
 use Rattle.ticket_order.specs.Records.{failing, giving, looking, missing, publishing, reach, taking}
 use Rattle.ticket_order.specs.StepRules.{AllLegalSections}
 use Rattle.ticket_order.proofs.Longer.{sections_both, sections_longer}
+use Rattle.std.specs.Arc.{arc_value}
+use Rattle.stripe_locks.specs.Passes.{recorded, stripe_count}
+use Rattle.journal.specs.declared.own_steps.OwnSteps.{OwnSteps}
 use Rattle.flusher.specs.Fitting.{HasSeenMore}
 
 -- The pass captured nothing more, and may have seen more.
@@ -52,6 +55,10 @@ back_from p holder w is k = subst (λ (x : Record). CapturesNone p x) (sym is) k
 
 put_back : (p holder w : Record) (i : ℕ) → HasLookedAt p i holder → w ≡ giving Nothing holder → CapturesNone p w
 put_back p holder w i h is = back_from p holder w is (subst (λ (x : Record). CapturesNone p (giving Nothing x)) (sym h.is) (looked p i h.part h.outbox h.last h.taken h.looked))
+
+-- the journal's pass made no step
+pub of_same_steps : (old new : OwnSteps) → new ≡ old → AllLegalSections (stripe_count (arc_value old.stripes)) (recorded old.pass) (recorded old.pass).sections → AllLegalSections (stripe_count (arc_value new.stripes)) (recorded new.pass) (recorded new.pass).sections
+of_same_steps old new same legal = subst (λ (s : OwnSteps). AllLegalSections (stripe_count (arc_value s.stripes)) (recorded s.pass) (recorded s.pass).sections) (sym same) legal
 
 -- ---- a sweep of one stripe
 

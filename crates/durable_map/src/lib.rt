@@ -9,7 +9,6 @@ mod leading;
 mod locked_keeper;
 mod loops;
 mod map;
-mod own_steps;
 mod reads;
 mod starts;
 mod telling;

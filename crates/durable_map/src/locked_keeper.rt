@@ -1,30 +1,23 @@
 //! The keeper with the steps of its pass, one value under one lock. Between any two of its calls it
 //! keeps what a stop is to leave, neither sweeps nor captures, and holds no stripe.
-ghost use Rattle.std.specs.Prelude.{◌≡◌, ◌<◌, ◌≤◌, ℕ, List, None, Some, true, false, IfErr};
+ghost use Rattle.std.specs.Prelude.{◌≡◌, true, false, IfErr};
 ghost use Rattle.std.specs.Arc.{arc_value};
-ghost use Rattle.map_types.specs.declared.commands.Command.{Command};
-ghost use Rattle.ticket_order.specs.declared.record.Record.{Record};
 ghost use Rattle.ticket_order.specs.StepRules.{AllLegalSections};
 ghost use Rattle.stripe_locks.specs.Holding.{name_of_words};
-ghost use Rattle.stripe_locks.specs.Passes.{recorded, stripe_count, IsPassOf};
-ghost use Rattle.flusher.specs.Fitting.{Fits};
-ghost use Rattle.flusher.specs.KeeperSteps.{is_walking};
+ghost use Rattle.stripe_locks.specs.Passes.{recorded, stripe_count};
 ghost use Rattle.durable_map.specs.LockedKeepers.{HasCause, Keeps, KeepsSealed};
 
-use crate::own_steps::OwnSteps;
 use crate::telling::{Done, SealedCheckpoint, Standing};
 use checkpoint_file::CheckpointPhase;
-use checkpoint_walk::{advance, begin, seal, try_capture};
 use disk_model::Disk;
-use flusher::{Keeper, laws};
+use flusher::laws;
 use gate_log::Phase;
+use journal::{Journal, OwnSteps, laws as journal_laws};
 use keyed_lock::Keyed;
 use map_types::Refusal;
-use std::alloc::Global;
 use std::marker::Model;
-use std::sync::Arc;
 use std::time::Instant;
-use stripe_locks::{Pass, Stripes};
+use stripe_locks::Stripes;
 use ticket_order::Steps;
 
 /// The longest batch.
@@ -43,24 +36,26 @@ pub(crate) enum Turn {
     Awaited,
 }
 
-/// Its sweeps took what is committed, no more is published, and what a stop leaves stands for that.
-/// Until a device call fails, the marks of the sealed checkpoint are committed.
-pub(crate) fn what_is_kept<D: Disk>(keeper: &Keeper<D>)
-    ensures { (n : ℕ) (done : List Command) (p : Record)
-        → Fits D.states D.honest n done keeper.now p → is_walking keeper.now.sweeper.walking ≡ false
-        → keeper.now.capture ≡ None → AllLegalSections n p p.sections
-        → (keeper.now.is_broken ≡ true → KeepsSealed D.states D.honest keeper.now)
-        → Keeps D.states D.honest n keeper.now p }
+/// What a stop is to leave of a journal, if its sections and its sealed checkpoint are kept: its sweeps
+/// took what is committed, no more is published, and what a stop leaves stands for that. Until a
+/// device call fails, the marks of the sealed checkpoint are committed.
+pub(crate) fn what_is_kept<D: Disk>(journal: &Journal<D, OwnSteps>)
+    ensures { AllLegalSections (stripe_count (arc_value journal.now.steps.stripes))
+        (recorded journal.now.steps.pass) (recorded journal.now.steps.pass).sections
+        → (journal.now.keeper.is_broken ≡ true
+        → KeepsSealed D.states D.honest journal.now.keeper)
+        → Keeps D.states D.honest (stripe_count (arc_value journal.now.steps.stripes))
+        journal.now.keeper (recorded journal.now.steps.pass) }
 {
-    laws::committed_were_taken(keeper);
-    laws::stops_of_a_keeper(keeper);
+    journal_laws::journals_rest(journal);
+    laws::committed_were_taken(journal.keeper());
+    laws::stops_of_a_keeper(journal.keeper());
 }
 
 /// The keeper with the steps of its pass. Each of its calls makes at most one device call.
 #[derive(Drop)]
 pub(crate) struct LockedKeeper<D: Disk> {
-    keeper: Keeper<D>,
-    steps: OwnSteps,
+    journal: Journal<D, OwnSteps>,
     // A file was found full: a batch would have carried the log past its greatest length, or a stripe has
     // too many entries for a checkpoint.
     is_full: bool,
@@ -83,14 +78,15 @@ impl<D: Disk> Model for LockedKeeper<D> {
         (λ p. record { pass = p.0; words = p.1.0; disk = p.1.1 }) (λ _. refl) };
 
     ghost view = { λ locked. record {
-      pass = recorded locked.steps.pass;
-      words = name_of_words (arc_value locked.steps.stripes);
-      disk = locked.keeper.disk;
+      pass = recorded locked.journal.steps.pass;
+      words = name_of_words (arc_value locked.journal.steps.stripes);
+      disk = locked.journal.keeper.disk;
     } };
 
     ghost invariant = { λ locked.
-        Keeps D.states D.honest (stripe_count (arc_value locked.steps.stripes)) locked.keeper
-        (recorded locked.steps.pass) × HasCause locked.is_full locked.keeper };
+        Keeps D.states D.honest (stripe_count (arc_value locked.journal.steps.stripes))
+        locked.journal.keeper (recorded locked.journal.steps.pass)
+        × HasCause locked.is_full locked.journal.keeper };
 }
 
 /// The pass under the lock makes its steps on the words of the stripes that are the lock's key.
@@ -102,23 +98,18 @@ impl<D: Disk> Keyed<Stripes> for LockedKeeper<D> {
 }
 
 impl<D: Disk> LockedKeeper<D> {
-    /// The keeper of a directory that was opened, with the keeper's pass of these stripes.
-    pub(crate) fn new(
-        stripes: Arc<Stripes, Global>,
-        keeper: Keeper<D>,
-        pass: Pass,
-    ) -> LockedKeeper<D>
-        requires own { IsPassOf (arc_value stripes) pass }
-        requires keeps { Keeps D.states D.honest (stripe_count (arc_value stripes)) keeper
-            (recorded pass) }
-        requires cause { HasCause false keeper }
-        ensures pass { result.pass ≡ recorded pass }
-        ensures words { result.words ≡ name_of_words (arc_value stripes) }
-        ensures disk { result.disk ≡ keeper.disk }
+    /// The journal of a directory that was opened, before its first call.
+    pub(crate) fn new(journal: Journal<D, OwnSteps>) -> LockedKeeper<D>
+        requires keeps { Keeps D.states D.honest
+            (stripe_count (arc_value journal.steps.stripes)) journal.keeper
+            (recorded journal.steps.pass) }
+        requires cause { HasCause false journal.keeper }
+        ensures pass { result.pass ≡ recorded journal.steps.pass }
+        ensures words { result.words ≡ name_of_words (arc_value journal.steps.stripes) }
+        ensures disk { result.disk ≡ journal.keeper.disk }
     {
         LockedKeeper {
-            keeper,
-            steps: OwnSteps::new(stripes, pass),
+            journal,
             is_full: false,
             done: Done::new(),
         }
@@ -128,23 +119,28 @@ impl<D: Disk> LockedKeeper<D> {
     pub(crate) fn into_disk(self) -> D
         ensures { result ≡ self.disk }
     {
-        let LockedKeeper { keeper, .. } = self;
-        keeper.into_disk()
+        let LockedKeeper { journal, .. } = self;
+        journal.into_disk()
+    }
+
+    /// The stripes, whose other passes are woken.
+    fn stripes(&self) -> &Stripes {
+        &self.journal.steps().stripes
     }
 
     /// How many commands are committed.
     pub(crate) fn committed(&self) -> u64 {
-        self.keeper.committed()
+        self.journal.keeper().committed()
     }
 
     /// How the map stands, of which so many tickets were drawn.
     pub(crate) fn standing(&self, tickets: u64) -> Standing {
         Standing {
             tickets,
-            durable: self.keeper.published,
+            durable: self.journal.keeper().published,
             batches: self.done.batches,
-            log_bytes: self.keeper.log.gate() as u64 + 1,
-            generation: self.keeper.sealed,
+            log_bytes: self.journal.keeper().log.gate() as u64 + 1,
+            generation: self.journal.keeper().sealed,
             sealed: self.done.sealed,
         }
     }
@@ -153,19 +149,19 @@ impl<D: Disk> LockedKeeper<D> {
     fn sweep(&mut self, stripe: usize)
         ensures words { self.new.words ≡ self.old.words }
     {
-        if stripe >= self.steps.stripes().get() {
+        if stripe >= self.journal.steps().stripes().get() {
             return;
         }
-        let _swept = self.keeper.try_sweep(stripe, &mut self.steps);
-        what_is_kept(&self.keeper);
+        let _swept = self.journal.try_sweep(stripe);
+        what_is_kept(&self.journal);
     }
 
     /// Takes the entries of each stripe that is marked, or of each at all, unless another pass holds it.
     fn gather(&mut self, sweeps_all: bool)
         ensures words { self.new.words ≡ self.old.words }
     {
-        let marks = self.steps.stripes.take_marks();
-        for stripe in 0..self.steps.stripes().get() {
+        let marks = self.stripes().take_marks();
+        for stripe in 0..self.journal.steps().stripes().get() {
             if sweeps_all || marks.contains(stripe) {
                 self.sweep(stripe);
             }
@@ -176,8 +172,8 @@ impl<D: Disk> LockedKeeper<D> {
     fn stage(&mut self) -> Result<u32, Refusal>
         ensures words { self.new.words ≡ self.old.words }
     {
-        let staged = self.keeper.stage_batch(MOST_COMMANDS);
-        what_is_kept(&self.keeper);
+        let staged = self.journal.stage_batch(MOST_COMMANDS);
+        what_is_kept(&self.journal);
         if matches!(staged, Err(Refusal::LogFull)) {
             self.is_full = true;
         }
@@ -188,8 +184,8 @@ impl<D: Disk> LockedKeeper<D> {
     fn write_ahead(&mut self) -> Result<(), Refusal>
         ensures words { self.new.words ≡ self.old.words }
     {
-        let written = self.keeper.write_ahead();
-        what_is_kept(&self.keeper);
+        let written = self.journal.write_ahead();
+        what_is_kept(&self.journal);
         written
     }
 
@@ -197,14 +193,14 @@ impl<D: Disk> LockedKeeper<D> {
     fn advance_logs(&mut self) -> Result<Phase, Refusal>
         ensures words { self.new.words ≡ self.old.words }
     {
-        let stepped = self.keeper.advance();
-        what_is_kept(&self.keeper);
+        let stepped = self.journal.advance();
+        what_is_kept(&self.journal);
         stepped
     }
 
     /// Whether no device call is due in the logs.
     fn is_resting(&self) -> bool {
-        self.keeper.log.is_resting() && self.keeper.next.is_none()
+        self.journal.keeper().log.is_resting() && self.journal.keeper().next.is_none()
     }
 
     /// DURABLE with the committed count, and wakes those who wait for it, if any do.
@@ -212,10 +208,10 @@ impl<D: Disk> LockedKeeper<D> {
         ensures words { self.new.words ≡ self.old.words }
     {
         self.done
-            .note_batch(self.keeper.published < self.keeper.committed());
-        self.keeper.publish(&mut self.steps);
-        what_is_kept(&self.keeper);
-        self.steps.stripes.wake_released();
+            .note_batch(self.journal.keeper().published < self.journal.keeper().committed());
+        self.journal.publish();
+        what_is_kept(&self.journal);
+        self.stripes().wake_released();
     }
 
     /// FAIL, and wakes all who wait for it or for their positions. If no device call has failed and no
@@ -223,10 +219,10 @@ impl<D: Disk> LockedKeeper<D> {
     pub(crate) fn fail(&mut self)
         ensures words { self.new.words ≡ self.old.words }
     {
-        if self.keeper.is_broken || self.is_full {
-            self.keeper.fail(&mut self.steps);
-            what_is_kept(&self.keeper);
-            self.steps.stripes.wake_failed();
+        if self.journal.keeper().is_broken || self.is_full {
+            self.journal.fail();
+            what_is_kept(&self.journal);
+            self.stripes().wake_failed();
         }
     }
 
@@ -260,15 +256,15 @@ impl<D: Disk> LockedKeeper<D> {
     fn begin_checkpoint(&mut self, bytes: u64, now: Option<Instant>) -> Result<Turn, Refusal>
         ensures words { self.new.words ≡ self.old.words }
     {
-        let length = self.keeper.log.gate() as u64 + 1;
+        let length = self.journal.keeper().log.gate() as u64 + 1;
         if length < bytes {
             return Ok(Turn::Rested);
         }
-        let begun = begin(&mut self.keeper);
-        what_is_kept(&self.keeper);
+        let begun = self.journal.begin();
+        what_is_kept(&self.journal);
         begun?;
         self.done.note_begun(now);
-        self.steps.stripes.wake_keeper();
+        self.stripes().wake_keeper();
         Ok(Turn::Worked)
     }
 
@@ -276,8 +272,8 @@ impl<D: Disk> LockedKeeper<D> {
     fn capture_section(&mut self, stripe: usize) -> Result<u64, Refusal>
         ensures words { self.new.words ≡ self.old.words }
     {
-        let captured = try_capture(&mut self.keeper, stripe, &mut self.steps);
-        what_is_kept(&self.keeper);
+        let captured = self.journal.try_capture(stripe);
+        what_is_kept(&self.journal);
         captured
     }
 
@@ -290,15 +286,15 @@ impl<D: Disk> LockedKeeper<D> {
             self.is_full = true;
         }
         let _mark = captured?;
-        self.done.note_captured(self.steps.entries());
+        self.done.note_captured(self.journal.steps().entries());
         Ok(Turn::Worked)
     }
 
     fn seal_checkpoint(&mut self) -> Result<Turn, Refusal>
         ensures words { self.new.words ≡ self.old.words }
     {
-        let sealed = seal(&mut self.keeper);
-        what_is_kept(&self.keeper);
+        let sealed = self.journal.seal();
+        what_is_kept(&self.journal);
         sealed?;
         Ok(Turn::Worked)
     }
@@ -307,8 +303,8 @@ impl<D: Disk> LockedKeeper<D> {
     fn advance_checkpoint(&mut self) -> Result<Turn, Refusal>
         ensures words { self.new.words ≡ self.old.words }
     {
-        let stepped = advance(&mut self.keeper);
-        what_is_kept(&self.keeper);
+        let stepped = self.journal.advance_checkpoint();
+        what_is_kept(&self.journal);
         match stepped? {
             CheckpointPhase::Sealed => Ok(Turn::Sealed),
             _ => Ok(Turn::Worked),
@@ -320,7 +316,7 @@ impl<D: Disk> LockedKeeper<D> {
         ensures words { self.new.words ≡ self.old.words }
     {
         let sealed = SealedCheckpoint {
-            generation: self.keeper.sealed,
+            generation: self.journal.keeper().sealed,
             entries: self.done.captured,
             begun: self.done.begun,
             ended: now,
@@ -336,13 +332,13 @@ impl<D: Disk> LockedKeeper<D> {
     pub(crate) fn checkpoint(&mut self, bytes: u64, now: Option<Instant>) -> Result<Turn, Refusal>
         ensures words { self.new.words ≡ self.old.words }
     {
-        if self.keeper.is_broken || self.keeper.has_failed {
+        if self.journal.keeper().is_broken || self.journal.keeper().has_failed {
             return Err(Refusal::Failed);
         }
-        let Some(writer) = &self.keeper.checkpoint else {
+        let Some(writer) = &self.journal.keeper().checkpoint else {
             return self.begin_checkpoint(bytes, now);
         };
-        if self.keeper.next.is_some() {
+        if self.journal.keeper().next.is_some() {
             return Ok(Turn::Awaited);
         }
         if writer.phase() != CheckpointPhase::Ready {
@@ -360,8 +356,8 @@ impl<D: Disk> LockedKeeper<D> {
         ensures words { self.new.words ≡ self.old.words }
         ensures err { IfErr result (λ refusal. refusal ≡ Refusal.NoMemory) }
     {
-        let set = self.keeper.set_ahead(count);
-        what_is_kept(&self.keeper);
+        let set = self.journal.set_ahead(count);
+        what_is_kept(&self.journal);
         set
     }
 }

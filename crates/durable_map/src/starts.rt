@@ -19,6 +19,7 @@ use crate::map::DurableMap;
 use atomic_methods::Part;
 use disk_model::Disk;
 use flusher::Keeper;
+use journal::Journal;
 use keyed_lock::KeyedLock;
 use map_types::Refusal;
 use std::alloc::Global;
@@ -58,19 +59,15 @@ impl<D: Disk + Drop> DurableMap<D> {
             Ok(stripes) => stripes,
             Err(refusal) => return Err((keeper.into_disk(), refusal)),
         };
-        let pass = match stripes.keeper_pass() {
-            Ok(pass) => pass,
-            Err(refusal) => return Err((keeper.into_disk(), refusal)),
-        };
         let Ok(stripes) = Arc::new(alloc, stripes) else {
             return Err((keeper.into_disk(), Refusal::NoMemory));
         };
         let Ok(shared) = Arc::try_clone(&stripes) else {
             return Err((keeper.into_disk(), Refusal::NoMemory));
         };
-        what_is_kept(&keeper);
-        let locked = LockedKeeper::new(shared, keeper, pass);
-        match KeyedLock::new(alloc, locked, &*stripes) {
+        let journal = Journal::over(keeper, shared)?;
+        what_is_kept(&journal);
+        match KeyedLock::new(alloc, LockedKeeper::new(journal), &*stripes) {
             Ok(locked) => Ok(DurableMap {
                 stripes,
                 locked,

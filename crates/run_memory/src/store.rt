@@ -9,43 +9,43 @@ use crate::showing::{show_keeper, show_stripes, tell_next, tell_reply};
 use crate::steps::{Keeping, Step, Walk, step_of};
 use call_text::Asked;
 use disk_model::MemDisk;
-use flusher::Keeper;
 use java_hash::StripeCount;
+use journal::{Journal, OwnSteps};
 use map_types::Refusal;
 use recovery::open;
 use run_cases::number;
 use std::alloc::{AllocError, Global};
 use std::marker::Model;
 use std::mem;
-use std::sync::Wait;
+use std::sync::{Arc, Wait};
 use stripe_locks::{Held, Pass, Released, Stripes};
 
 /// How many replies are held without a request for memory.
 const ROOM: usize = 64;
 
-/// A keeper over shared stripes with its pass; and a worker of these stripes, with the replies that
-/// it holds. Between two steps the worker holds no stripe.
+/// A journal over shared stripes; and a worker of these stripes, with the replies that it holds.
+/// Between two steps the worker holds no stripe.
 #[derive(Drop)]
 pub(crate) struct Store {
     alloc: Global,
-    keeper: Keeper<MemDisk>,
-    stripes: Stripes,
-    pass: Pass,
+    journal: Journal<MemDisk, OwnSteps>,
+    stripes: Arc<Stripes, Global>,
     worker: Pass,
     held: Vec<Held>,
 }
 
 impl Model for Store {
+    ghost use Rattle.std.specs.Arc.{arc_value};
     ghost use Rattle.std.specs.Prelude.{ℕ};
     ghost use Rattle.stripe_locks.specs.Passes.{stripe_count};
     ghost use Rattle.run_memory.specs.Stores.{IsStore};
 
     ghost Value = { ℕ };
 
-    ghost view = { λ store. stripe_count store.stripes };
+    ghost view = { λ store. stripe_count (arc_value store.stripes) };
 
     ghost invariant = { λ store.
-        IsStore store.keeper store.stripes store.pass store.worker store.held.items };
+        IsStore (arc_value store.stripes) store.worker store.held.items };
 }
 
 /// Makes a call of a pass. A change waits for a stripe that is held only if it is to wait.
@@ -124,14 +124,18 @@ impl Store {
             Ok(opened) => opened,
             Err((_disk, refusal)) => return Err(refusal),
         };
-        let pass = stripes.keeper_pass()?;
+        let stripes = Arc::new(alloc, stripes)?;
+        let shared = Arc::try_clone(&stripes)?;
+        let journal = match Journal::over(keeper, shared) {
+            Ok(journal) => journal,
+            Err((_disk, refusal)) => return Err(refusal),
+        };
         let worker = stripes.pass()?;
         let held = Vec::with_capacity(alloc, ROOM)?;
         Ok(Store {
             alloc,
-            keeper,
+            journal,
             stripes,
-            pass,
             worker,
             held,
         })
@@ -141,13 +145,12 @@ impl Store {
     pub(crate) fn into_disk(self) -> MemDisk {
         let Store {
             alloc: _,
-            keeper,
+            journal,
             stripes: _stripes,
-            pass: _pass,
             worker: _worker,
             held: _held,
         } = self;
-        keeper.into_disk()
+        journal.into_disk()
     }
 
     /// Makes a call of the worker, and holds its reply: its position.
@@ -167,13 +170,12 @@ impl Store {
 
     /// Makes a step of the keeper's files.
     fn keep(&mut self, keeping: Keeping) -> Answer {
-        keep(&mut self.keeper, keeping)
+        keep(&mut self.journal, keeping)
     }
 
     /// Makes a step of the keeper over the stripes.
     fn walk<R: Wait>(&mut self, rt: &R, step: Walk) -> Answer {
-        let mut steps = self.stripes.at(&mut self.pass);
-        walk(rt, &mut self.keeper, &mut steps, step)
+        walk(rt, &mut self.journal, step)
     }
 
     /// Makes a step: what it answers.
@@ -221,6 +223,6 @@ impl Store {
 
     /// Tells what stands in the keeper.
     pub(crate) fn show_keeper(&self, told: &mut String) -> Result<(), AllocError> {
-        show_keeper(&self.keeper, told)
+        show_keeper(self.journal.keeper(), told)
     }
 }

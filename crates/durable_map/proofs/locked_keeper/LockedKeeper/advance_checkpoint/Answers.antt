@@ -1,7 +1,7 @@
 use Rattle.std.proofs.Common.{refl, ap, ◌∙◌}
 use Rattle.flusher.specs.declared.keeper.Keeper.{Keeper}
-use Rattle.flusher.specs.KeeperSteps.{is_walking}
 use Rattle.durable_map.proofs.Causes.{kept}
+use Rattle.durable_map.proofs.Sections.{of_same_steps}
 use Rattle.durable_map.proofs.KeeperLaws.{written_next}
 use Rattle.durable_map.proofs.Sealed.{checkpoint_stepped}
 use Rattle.durable_map.proofs.locked_keeper.LockedKeeper.advance_checkpoint.Goals as goal
@@ -11,9 +11,10 @@ invariant_of-self g c =
     let old = c.self.inside in
     let k = c.self.invariant.0 in
     let t = c.advance-stepped in
-    let s = t.ensures.same in (
-      c.what_is_kept.ensures _ k.done _ (t.ensures.fits _ k.done _ k.fits) (ap (λ (x : Keeper g.row.D.Denot). is_walking x.sweeper.walking) s ∙ k.still) (ap (λ (x : Keeper g.row.D.Denot). x.capture) s ∙ k.over) k.captured
-          (checkpoint_stepped g.D.Disk.states g.D.Disk.failures g.D.Disk.honest old.keeper t.new.keeper t.result _ _ _ refl refl refl t.ensures.failed t.ensures.rests t.ensures.steps
-          (written_next g.D.Disk.states g.D.Disk.honest _ k.done old.keeper _ k.fits) t.ensures.works (ap (λ (x : Keeper g.row.D.Denot). x.log) s) k.sealed),
-      kept old.keeper t.new.keeper old.is_full (ap (λ (x : Keeper g.row.D.Denot). x.has_failed) s) (λ broken. ap (λ (x : Keeper g.row.D.Denot). x.is_broken) (t.ensures.failed broken).1 ∙ broken) c.self.invariant.1,
+    let s = t.ensures.same in
+    let legal = of_same_steps old.journal.steps t.new.self.steps t.ensures.pass k.captured in (
+      c.what_is_kept.ensures legal
+          (checkpoint_stepped g.D.Disk.states g.D.Disk.failures g.D.Disk.honest old.journal.keeper t.new.self.keeper t.result _ _ _ refl refl refl t.ensures.failed t.ensures.rests t.ensures.steps
+          (written_next g.D.Disk.states g.D.Disk.honest _ k.done old.journal.keeper _ k.fits) t.ensures.works (ap (λ (x : Keeper g.row.D.Denot). x.log) s) k.sealed),
+      kept old.journal.keeper t.new.self.keeper old.is_full (ap (λ (x : Keeper g.row.D.Denot). x.has_failed) s) (λ broken. ap (λ (x : Keeper g.row.D.Denot). x.is_broken) (t.ensures.failed broken).1 ∙ broken) c.self.invariant.1,
     )

@@ -10,9 +10,9 @@ invariant_of-self g c =
     let old = c.self.inside in
     let k = c.self.invariant.0 in
     let t = c.try_capture-captured in
-    let w = recorded t.new.steps.pass in
-    let b = captured g.D.Disk.states g.D.Disk.honest _ _ old.keeper t.new.keeper (recorded old.steps.pass) w (of_kept g.D.Disk.states g.D.Disk.honest _ _ _ k) t.result t.ensures.ok t.ensures.err in
+    let w = recorded t.new.self.steps.pass in
+    let b = captured g.D.Disk.states g.D.Disk.honest _ _ old.journal.keeper t.new.self.keeper (recorded old.journal.steps.pass) w (of_kept g.D.Disk.states g.D.Disk.honest _ _ _ k) t.result t.ensures.ok t.ensures.err in
     let legal = subst (λ (m : ℕ). AllLegalSections m w w.sections) (sym t.ensures.pass.1) b.captured in (
-      c.what_is_kept.ensures _ k.done _ (t.ensures.fits k.done k.fits) b.still b.over legal (λ broken. b.sealed),
-      captured_on _ _ old.keeper t.new.keeper _ _ old.is_full c.self.invariant.1 t.result t.ensures.ok t.ensures.err,
+      c.what_is_kept.ensures legal (λ broken. b.sealed),
+      captured_on _ _ old.journal.keeper t.new.self.keeper _ _ old.is_full c.self.invariant.1 t.result t.ensures.ok t.ensures.err,
     )

@@ -11,10 +11,10 @@ invariant_of-self g c =
     let old = c.self.inside in
     let k = c.self.invariant.0 in
     let t = c.fail in
-    let w = recorded t.new.steps.pass in
-    let b = failed g.D.Disk.states g.D.Disk.honest _ old.keeper t.new.self (recorded old.steps.pass) w (of_kept g.D.Disk.states g.D.Disk.honest _ _ _ k) t.ensures.failed.0 t.ensures.failed.1 in
+    let w = recorded t.new.self.steps.pass in
+    let b = failed g.D.Disk.states g.D.Disk.honest _ old.journal.keeper t.new.self.keeper (recorded old.journal.steps.pass) w (of_kept g.D.Disk.states g.D.Disk.honest _ _ _ k) t.ensures.failed.0 t.ensures.failed.1 in
     let legal = subst (λ (m : ℕ). AllLegalSections m w w.sections) (sym t.ensures.pass.1) b.captured in (
-      c.what_is_kept.ensures _ k.done _ (t.ensures.fits k.done k.fits) b.still b.over legal (λ broken. b.sealed),
-      fails old.keeper t.new.self old.is_full t.ensures.failed.1
+      c.what_is_kept.ensures legal (λ broken. b.sealed),
+      fails old.journal.keeper t.new.self.keeper old.is_full t.ensures.failed.1
           (elim c.then-self.branch [ then-self-via-then-self w ↦ inl w.if-self.true | then-self-via-else-self+then-self-2 w ↦ inr w.if-self-2.true ]),
     )

@@ -12,9 +12,9 @@ invariant_of-self g c =
     let k = c.self.invariant.0 in
     let t = c.try_sweep-swept in
     let s = t.ensures.same in
-    let w = recorded t.new.steps.pass in
-    let b = swept g.D.Disk.states g.D.Disk.honest _ _ old.keeper t.new.self (recorded old.steps.pass) w (of_kept g.D.Disk.states g.D.Disk.honest _ _ _ k) t.result t.ensures.ok t.ensures.err s in
+    let w = recorded t.new.self.steps.pass in
+    let b = swept g.D.Disk.states g.D.Disk.honest _ _ old.journal.keeper t.new.self.keeper (recorded old.journal.steps.pass) w (of_kept g.D.Disk.states g.D.Disk.honest _ _ _ k) t.result t.ensures.ok t.ensures.err s in
     let legal = subst (λ (m : ℕ). AllLegalSections m w w.sections) (sym t.ensures.pass.1) b.captured in (
-      c.what_is_kept.ensures _ k.done _ (t.ensures.fits k.done k.fits) b.still b.over legal (λ broken. b.sealed),
-      kept old.keeper t.new.self old.is_full (ap (λ (x : Keeper g.row.D.Denot). x.has_failed) s) (λ broken. ap (λ (x : Keeper g.row.D.Denot). x.is_broken) s ∙ broken) c.self.invariant.1,
+      c.what_is_kept.ensures legal (λ broken. b.sealed),
+      kept old.journal.keeper t.new.self.keeper old.is_full (ap (λ (x : Keeper g.row.D.Denot). x.has_failed) s) (λ broken. ap (λ (x : Keeper g.row.D.Denot). x.is_broken) s ∙ broken) c.self.invariant.1,
     )

@@ -1,10 +1,17 @@
 //! The steps of a pass on shared stripes, both of which it owns.
-ghost use Rattle.std.specs.Prelude.{◌≡◌};
+ghost use Rattle.std.specs.Prelude.{◌≡◌, None, false, IfOk, IfErr};
 ghost use Rattle.std.specs.Arc.{arc_value};
-ghost use Rattle.stripe_locks.specs.Passes.{IsPassOf};
+ghost use Rattle.ticket_order.specs.declared.record.Record.{Record};
+ghost use Rattle.stripe_locks.specs.Passes.{begun_with, recorded, stripe_count, IsPassOf};
+ghost use Rattle.stripe_locks.specs.Plays.{joining};
+ghost use Rattle.flusher.specs.Fitting.{IsKept, IsUnused};
+ghost use Rattle.flusher.specs.KeeperSteps.{is_walking};
 
+use crate::owner::Journal;
+use disk_model::Disk;
+use flusher::Keeper;
 use java_hash::StripeCount;
-use map_types::Command;
+use map_types::{Command, Refusal};
 use std::alloc::Global;
 use std::sync::Arc;
 use stripe_locks::{Pass, Stripes};
@@ -13,15 +20,16 @@ use ticket_order::{Purpose, Steps, Stripe, Ticket};
 /// The steps of a pass on the words of shared stripes. How many entries the stripe had that was taken
 /// last is a hint: no clause speaks of it.
 #[derive(Drop)]
-pub(crate) struct OwnSteps {
-    pub(crate) stripes: Arc<Stripes, Global>,
-    pub(crate) pass: Pass,
+pub struct OwnSteps {
+    pub stripes: Arc<Stripes, Global>,
+    pub pass: Pass,
     entries: usize,
     ghost own: { IsPassOf (arc_value stripes) pass },
 }
 
 impl OwnSteps {
-    pub(crate) fn new(stripes: Arc<Stripes, Global>, pass: Pass) -> OwnSteps
+    /// The steps of a pass of these stripes.
+    pub fn new(stripes: Arc<Stripes, Global>, pass: Pass) -> OwnSteps
         requires own { IsPassOf (arc_value stripes) pass }
         ensures stripes { result.stripes ≡ stripes }
         ensures pass { result.pass ≡ pass }
@@ -34,7 +42,7 @@ impl OwnSteps {
     }
 
     /// How many entries the stripe had that was taken last.
-    pub(crate) fn entries(&self) -> usize {
+    pub fn entries(&self) -> usize {
         self.entries
     }
 }
@@ -102,5 +110,38 @@ impl Steps for OwnSteps {
 
     fn alive(&mut self) -> bool {
         self.stripes.at(&mut self.pass).alive()
+    }
+}
+
+impl<D: Disk> Journal<D, OwnSteps> {
+    /// The journal of a keeper that has made no call, with the keeper's pass of these stripes. Refused
+    /// with `SeatsSpent` if that pass can't be had; the disk is handed back.
+    pub fn over(
+        keeper: Keeper<D>,
+        stripes: Arc<Stripes, Global>,
+    ) -> Result<Journal<D, OwnSteps>, (D, Refusal)>
+        // The keeper fits each unused pass of the stripes, and rests.
+        requires fits { (p : Record) → p.opening ≡ begun_with (arc_value stripes)
+            → IsUnused (begun_with (arc_value stripes)).first
+            (begun_with (arc_value stripes)).key_limit p
+            → IsKept D.states D.honest (stripe_count (arc_value stripes)) keeper p }
+        requires still { is_walking keeper.sweeper.walking ≡ false }
+        requires over { keeper.capture ≡ None }
+
+        // It owns both, and its pass has made no step.
+        ensures owned { IfOk result (λ journal. (journal.keeper ≡ keeper)
+            × (journal.steps.stripes ≡ stripes)) }
+        ensures first { IfOk result (λ journal.
+            recorded journal.steps.pass ≡ joining (begun_with (arc_value stripes)) 0) }
+
+        // Or the stripes have no keeper's pass.
+        ensures err { IfErr result (λ refused. (refused.1 ≡ Refusal.SeatsSpent)
+            × (refused.0 ≡ keeper.disk)) }
+    {
+        let pass = match stripes.keeper_pass() {
+            Ok(pass) => pass,
+            Err(refusal) => return Err((keeper.into_disk(), refusal)),
+        };
+        Ok(Journal::new(keeper, OwnSteps::new(stripes, pass)))
     }
 }

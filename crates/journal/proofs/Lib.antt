@@ -1,0 +1,4 @@
+mod Resting
+mod Releasing
+mod FirstPasses
+pub mod Crosses
