@@ -1,6 +1,6 @@
 -- A journal may go from thread to thread where its disk and its steps may; so may the steps of a pass on shared stripes.
 use denote.RattleType.{RattleType}
-use denote.Param.Send.{IsSend, IsSync, AllSend, AllSync, sendable, view_send, struct_send, struct_sync, recorded_send, recorded_sync}
+use denote.Param.Send.{IsSend, AllSend, sendable, view_send, struct_send, recorded_send}
 use denote.Struct.Declared.{shape}
 use Rattle.std.proofs.Crossing.{crosses, Vec-send, Box-send}
 use Rattle.std.proofs.Crossing as heap

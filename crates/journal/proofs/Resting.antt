@@ -10,10 +10,10 @@ use Rattle.store_layout.specs.declared.log_phase.Phase.TheVariants.{Header, Head
 use Rattle.gate_log.specs.States.{LogState}
 use Rattle.flusher.specs.declared.keeper.Keeper.{Keeper}
 use Rattle.flusher.specs.declared.sweeper.Sweeper.{Sweeper}
-use Rattle.flusher.specs.Fitting.{FitsOn, IsKept}
+use Rattle.flusher.specs.Fitting.{IsKept}
 use Rattle.flusher.specs.KeeperSteps.{IsPast, is_walking}
 use Rattle.checkpoint_walk.specs.Checkpointing.{sealing}
-use Rattle.checkpoint_walk.specs.Walking.{AfterRefusal, AfterWaiting, BackWaiting, GivesSection, GivesWaiting, MissesStripe, PutsBack, StaysAt}
+use Rattle.checkpoint_walk.specs.Walking.{AfterRefusal, AfterWaiting, GivesSection, GivesWaiting, PutsBack}
 use Rattle.journal.specs.Journals.{Rests}
 
 -- neither a sweep nor a capture walks

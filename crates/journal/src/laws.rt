@@ -6,7 +6,9 @@ use disk_model::Disk;
 use ticket_order::Steps;
 
 /// A journal's keeper fits its files and the record of its pass, and neither sweeps nor captures.
-pub fn journals_rest<D: Disk, S: Steps>(_journal: &Journal<D, S>)
-    ensures { Rests D.states D.honest S.stripe_count S.recorded _journal.now.keeper
-        _journal.now.steps }
-{}
+pub fn journals_rest<D: Disk, S: Steps>(journal: &Journal<D, S>)
+    ensures { Rests D.states D.honest S.stripe_count S.recorded journal.now.keeper
+        journal.now.steps }
+{
+    let _keeper = &journal.keeper;
+}

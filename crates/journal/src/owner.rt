@@ -18,9 +18,13 @@ pub struct Journal<D: Disk, S: Steps> {
 }
 
 impl<D: Disk, S: Steps> Model for Journal<D, S> {
+    ghost use Rattle.std.specs.Coded.{codes};
+    ghost use Rattle.ticket_order.specs.contracts.walk.Walk as walk_type;
     ghost use Rattle.journal.specs.Journals.{Owned, Rests};
 
     ghost Value = { Owned D S };
+
+    ghost coded = { Prim.hlevel (codes, walk_type.the_row.coded) };
 
     ghost view = { λ journal. record { keeper = journal.keeper; steps = journal.steps } };
 
@@ -41,14 +45,14 @@ impl<D: Disk, S: Steps> Journal<D, S> {
 
     /// The keeper, to be read.
     pub fn keeper(&self) -> &Keeper<D>
-        ensures { result ≡ self.now.keeper }
+        ensures { result.now ≡ self.now.keeper }
     {
         &self.keeper
     }
 
     /// The steps of its pass, to be read.
     pub fn steps(&self) -> &S
-        ensures { result ≡ self.now.steps }
+        ensures { result.now ≡ self.now.steps }
     {
         &self.steps
     }
@@ -59,7 +63,10 @@ impl<D: Disk, S: Steps + Drop> Journal<D, S> {
     pub fn into_disk(self) -> D
         ensures { result ≡ self.keeper.disk }
     {
-        let Journal { keeper, steps: _steps } = self;
+        let Journal {
+            keeper,
+            steps: _steps,
+        } = self;
         keeper.into_disk()
     }
 }

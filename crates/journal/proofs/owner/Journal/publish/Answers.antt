@@ -1,0 +1,12 @@
+use Rattle.std.proofs.Common.{refl}
+use Rattle.journal.proofs.Resting.{of_rests, rests, published}
+use Rattle.journal.proofs.owner.Journal.publish.Goals as goal
+
+pub invariant_of-self : goal.invariant_of-self
+invariant_of-self g c =
+    let old = c.self.inside in
+    let t = c.publish in
+    let k = c.self.invariant.kept in
+    let s = of_rests g.D.Disk.states g.D.Disk.honest g.S.Steps.stripe_count g.S.Steps.recorded old.keeper old.steps c.self.invariant in
+    rests g.D.Disk.states g.D.Disk.honest g.S.Steps.stripe_count g.S.Steps.recorded t.new.self t.new.steps (k.0, t.ensures.fits k.0 k.1)
+    (published old.keeper t.new.self s _ refl t.ensures.published t.ensures.failed)
