@@ -9,7 +9,8 @@ use std::alloc::Global;
 use std::io;
 use std::io::ErrorKind;
 
-/// Fails unless the path is free, or has a socket at which nobody listens, while the directory is held.
+/// Fails unless the path is free, or has a socket at which nobody listens, while the directory is
+/// held.
 fn see_that_it_is_free<S: SocketFiles>(files: &S, held: &S::Room, path: &str) -> io::Result<()>
     ensures { OnOk result (S.was_free held.now path.now) }
 {
@@ -27,7 +28,8 @@ fn see_that_it_is_free<S: SocketFiles>(files: &S, held: &S::Room, path: &str) ->
     }
 }
 
-/// Removes the directory in which a socket is made, which is held, and a socket in it.
+/// Removes the directory in which a socket is made, which is held, and a socket in it, as far as
+/// that can be done.
 fn clear<S: SocketFiles>(files: &S, held: &S::Room, room: &str, inner: &str)
     requires inside { (path : List ℕ) × (room.now ≡ room_of path)
         × (inner.now ≡ inner_of path) }
@@ -38,8 +40,8 @@ fn clear<S: SocketFiles>(files: &S, held: &S::Room, room: &str, inner: &str)
     let _ = files.remove_directory(room);
 }
 
-/// Makes the directory in which the socket is made. One that a process left which has ended is removed
-/// first; one that another process holds stays.
+/// Makes the directory in which the socket is made, and holds it. One that was left there is
+/// removed first. It fails if that can't be done, or if another process holds it.
 fn make_room<S: SocketFiles>(files: &S, room: &str, inner: &str) -> io::Result<S::Room>
     requires inside { (path : List ℕ) × (room.now ≡ room_of path)
         × (inner.now ≡ inner_of path) }
@@ -51,7 +53,8 @@ fn make_room<S: SocketFiles>(files: &S, room: &str, inner: &str) -> io::Result<S
     files.make_private(room)
 }
 
-/// Makes a socket where nobody else reaches it, gives its file these rights, and renames it to the path.
+/// Makes a socket where nobody else reaches it, gives its file these rights, and renames it to the
+/// path.
 fn bind_inside<S: SocketFiles>(
     files: &S,
     alloc: Global,
@@ -74,16 +77,18 @@ fn bind_inside<S: SocketFiles>(
     Ok(listener)
 }
 
-/// A socket that listens at the path, whose file has these rights. Who may connect is so the file system's
-/// rule from the first moment on: the socket is made in a directory beside the path that only its user can
-/// enter, its file is given its rights there, and it is renamed to the path only then. The directory is
-/// removed. It is held meanwhile, so that of several processes one alone binds a socket at a path at a
-/// time.
+/// A socket that listens at the path, whose file has these rights. It is made in a directory beside
+/// the path that only its user can enter, its file is given its rights there, and it is renamed to
+/// the path only then. That directory is held meanwhile, so that of several processes one alone
+/// binds a socket at a path at a time. At the end it is removed, if it can be.
 ///
-/// It fails if a file is there that isn't a socket, which it leaves, if a server listens there, and if
-/// another process is about to. The file of a server that has ended is replaced: this is to be called only
-/// while the lock is held that that server had. What else fails is the system's. If it fails, what was at
-/// the path is there still.
+/// It fails unless nothing is at the path, or a socket at which nobody listens, and if another
+/// process is about to bind one. The file of a server that has ended is replaced: this is to be
+/// called only while the lock is held that that server had. What else fails is the system's.
+///
+/// It removes only where sockets are made beside a path, and renames to this one only what has its
+/// rights, once the path was free. If it fails, no clause says what is at the path. Tests show that
+/// a file, a directory and a link to a socket stay there.
 pub fn bind<S: SocketFiles>(
     files: &S,
     alloc: Global,
