@@ -69,7 +69,7 @@ holds_still A B C P (Err refusal) ok err still = both (subst (λ (r : Refusal). 
 
 -- a keeper that has published is idle still
 pub published_idle : {D : Type 0} (old new : Keeper D) (count : ℕ) → new ≡ record old { published = count } → IsIdle old → IsIdle new
-published_idle {D} old new count is idle = subst (λ (k : Keeper D). IsIdle k) (sym is) (record { working = idle.working; unfailed = idle.unfailed; resting = idle.resting; alone = idle.alone; still = idle.still })
+published_idle {D} old new count is idle = subst (λ (k : Keeper D). IsIdle k) (sym is) (record { working = idle.working; unfailed = idle.unfailed; resting = idle.resting; alone = idle.alone })
 
 -- a batch that the keeper refuses as too long
 pub no_room : (hand : Hand) (old new : LogState) (p : Record) (commands : List Command) → new ≡ old → hand.next ≡ old.committed → 1 ≤ length commands → IsLongest (layout_of old.version) 65536 hand commands → WereTaken old.committed commands p → is_too_long old commands → CannotCommit new p

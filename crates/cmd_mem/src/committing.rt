@@ -6,9 +6,8 @@ ghost use Rattle.flusher.specs.Fitting.{HasSeenMore, IsQuiet};
 ghost use Rattle.cmd_mem.specs.Served.{AreTaken, CannotCommit, IsCommitted, IsGivenOut, IsIdle, IsWithheld};
 
 use disk_model::Disk;
-use flusher::laws;
 use gate_log::Phase;
-use journal::{Journal, laws as journal_laws};
+use journal::{Journal, laws};
 use map_types::{Refusal, Reply};
 use std::sync::Wait;
 use ticket_order::{Held, Position, Released, Steps};
@@ -74,8 +73,7 @@ fn commit_some<D: Disk, S: Steps>(journal: &mut Journal<D, S>) -> Result<(), Ref
         (CannotCommit journal.new.keeper.log (S.recorded journal.new.steps)) }
     ensures pass { journal.new.steps ≡ journal.old.steps }
 {
-    journal_laws::journals_rest(journal);
-    laws::runs_were_taken(journal.keeper());
+    laws::runs_were_taken(journal);
     match journal.stage_batch(MOST_COMMANDS) {
         Ok(count) => {
             if count == 0 {
@@ -147,8 +145,8 @@ fn make_durable<D: Disk, S: Steps, R: Wait>(
 {
     match commit_in_time(rt, journal, position) {
         Ok(()) => {
-            journal_laws::journals_rest(journal);
-            laws::committed_were_taken(journal.keeper());
+            laws::journals_rest(journal);
+            laws::committed_were_taken(journal);
             journal.publish();
             Ok(())
         }

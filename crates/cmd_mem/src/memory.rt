@@ -12,9 +12,9 @@ ghost use Rattle.cmd_mem.specs.Served.{BegunIsServed, Begins, Ends, IsCallOf, Is
 use crate::committing::give_out;
 use connections::Calls;
 use disk_model::{Disk, MemDisk};
-use flusher::{Keeper, laws as keeper_laws};
+use flusher::Keeper;
 use java_hash::StripeCount;
-use journal::{Journal, OwnSteps, laws as journal_laws};
+use journal::{Journal, OwnSteps, laws};
 use map_types::{Refusal, Reply};
 use recovery::{format, open};
 use std::alloc::Global;
@@ -178,8 +178,7 @@ impl<D: Disk + Drop, R: Wait> Memory<'_, D, R> {
     pub fn into_disk(self) -> D
         ensures { D.honest result → Leaves D.states self.entry result }
     {
-        journal_laws::journals_rest(&self.journal);
-        keeper_laws::stops_of_a_keeper(self.journal.keeper());
+        laws::stops_of_a_journal(&self.journal);
         let Memory {
             rt: _,
             alloc: _,

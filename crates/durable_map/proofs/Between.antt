@@ -1,5 +1,5 @@
 -- What the calls that make no device call leave of what was captured and sealed.
-use Rattle.std.proofs.Common.{◌≡◌, ℕ, List, Option, None, Some, Result, Ok, Err, IfOk, IfErr, OnOk, OnErr, Bool, true, false, refl, sym, ap, subst, ◌∙◌}
+use Rattle.std.proofs.Common.{◌≡◌, ℕ, List, Result, Ok, Err, IfOk, IfErr, OnOk, Bool, true, false, sym, subst}
 use Rattle.disk_model.specs.Files.{Files}
 use Rattle.map_types.specs.declared.refusals.Refusal.{Refusal}
 use Rattle.map_types.specs.declared.refusals.Refusal.TheVariants as refusal
@@ -7,14 +7,8 @@ use Rattle.ticket_order.specs.declared.record.Record.{Record}
 use Rattle.ticket_order.specs.Calls.{RefusesSweep}
 use Rattle.ticket_order.specs.Records.{failing, missing, publishing}
 use Rattle.ticket_order.specs.StepRules.{AllLegalSections}
-use Rattle.ticket_order.specs.declared.stripe.Entry.{Entry}
-use Rattle.store_layout.specs.declared.log_phase.Phase.{Phase}
-use Rattle.store_layout.specs.declared.log_phase.Phase.TheVariants.{Header, HeaderWritten, Idle, Opened, Staged, Synced, Written}
-use Rattle.gate_log.specs.States.{LogState}
 use Rattle.flusher.specs.declared.keeper.Keeper.{Keeper}
-use Rattle.flusher.specs.declared.sweeper.Sweeper.{Sweeper}
-use Rattle.flusher.specs.KeeperSteps.{IsPast, SweepsOnce, is_walking}
-use Rattle.checkpoint_walk.specs.Checkpointing.{sealing}
+use Rattle.flusher.specs.KeeperSteps.{SweepsOnce}
 use Rattle.checkpoint_walk.specs.Walking.{AfterRefusal, GivesSection, MissesStripe, PutsBack, StaysAt}
 use Rattle.durable_map.specs.LockedKeepers.{Keeps, KeepsSealed}
 use Rattle.durable_map.proofs.Sections.{CapturesNone, missed, not_captured, not_swept, stay_legal}

@@ -27,7 +27,7 @@ stripes_send = search (stripe_send, shared.the_send, lease.the_send, heap.frees,
 module _ (D : RattleType) where
   module _ (g : Ghosts D.Denot) where
     fields : IsSend D → AllSend (shape (Inside.the_type D g)).fields
-    fields s = (journal D OwnSteps.the_row g (stepping.ghosts stepping.no_dict) s own_steps, ((search sendable), (search (done.the_field_send, crosses, sendable) depth 20, tt)))
+    fields s = (journal D OwnSteps.the_row g stepping.ghosts s own_steps, ((search sendable), (search (done.the_field_send, crosses, sendable) depth 20, tt)))
 
     inside : IsSend D → IsSend (Inside.the_row D g)
     inside s = recorded_send _ _ _ (Inside.the_type D g).to_one (struct_send (shape (Inside.the_type D g)) (fields s))

@@ -10,9 +10,8 @@ ghost use Rattle.durable_map.specs.LockedKeepers.{HasCause, Keeps, KeepsSealed};
 use crate::telling::{Done, SealedCheckpoint, Standing};
 use checkpoint_file::CheckpointPhase;
 use disk_model::Disk;
-use flusher::laws;
 use gate_log::Phase;
-use journal::{Journal, OwnSteps, laws as journal_laws};
+use journal::{Journal, OwnSteps, laws};
 use keyed_lock::Keyed;
 use map_types::Refusal;
 use std::marker::Model;
@@ -47,9 +46,9 @@ pub(crate) fn what_is_kept<D: Disk>(journal: &Journal<D, OwnSteps>)
         → Keeps D.states D.honest (stripe_count (arc_value journal.now.steps.stripes))
         journal.now.keeper (recorded journal.now.steps.pass) }
 {
-    journal_laws::journals_rest(journal);
-    laws::committed_were_taken(journal.keeper());
-    laws::stops_of_a_keeper(journal.keeper());
+    laws::journals_rest(journal);
+    laws::committed_were_taken(journal);
+    laws::stops_of_a_journal(journal);
 }
 
 /// The keeper with the steps of its pass. Each of its calls makes at most one device call.
@@ -207,8 +206,7 @@ impl<D: Disk> LockedKeeper<D> {
     fn publish(&mut self)
         ensures words { self.new.words ≡ self.old.words }
     {
-        self.done
-            .note_batch(self.journal.keeper().published < self.journal.keeper().committed());
+        self.done.note_batch(self.journal.keeper().published < self.journal.keeper().committed());
         self.journal.publish();
         what_is_kept(&self.journal);
         self.stripes().wake_released();

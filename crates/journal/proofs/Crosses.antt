@@ -85,8 +85,8 @@ stripes_send = search (stripe_send, shared.the_send, lease.the_send, heap.frees,
 steps_fields : AllSend (shape OwnSteps.the_type).fields
 steps_fields = (heap.Arc-send Stripes.the_row stripes_send stripes_sync, (pass, ((search sendable), tt)))
 
-pub own_steps : IsSend (OwnSteps.the_field).row
-own_steps = struct_send (shape OwnSteps.the_type) steps_fields
+pub own_steps : IsSend OwnSteps.the_row
+own_steps = recorded_send _ _ _ OwnSteps.the_type.to_one (struct_send (shape OwnSteps.the_type) steps_fields)
 
 module _ (D : RattleType) where
   keeper : IsSend D → IsSend (Keeper.the_field D).row

@@ -21,7 +21,9 @@ use ticket_order::{Purpose, Steps, Stripe, Ticket};
 /// last is a hint: no clause speaks of it.
 #[derive(Drop)]
 pub struct OwnSteps {
+    /// The stripes, which other passes share.
     pub stripes: Arc<Stripes, Global>,
+    /// The pass, which is one of theirs.
     pub pass: Pass,
     entries: usize,
     ghost own: { IsPassOf (arc_value stripes) pass },

@@ -10,7 +10,7 @@ pub invariant_of-self : goal.invariant_of-self
 invariant_of-self g c =
     let old = c.self.inside in
     let k = c.self.invariant.0 in
-    let t = c.advance-stepped in
+    let t = c.advance_checkpoint-stepped in
     let s = t.ensures.same in
     let legal = of_same_steps old.journal.steps t.new.self.steps t.ensures.pass k.captured in (
       c.what_is_kept.ensures legal

@@ -2,7 +2,6 @@ use Rattle.std.proofs.Common.{refl, ap, ◌∙◌}
 use Rattle.flusher.specs.declared.keeper.Keeper.{Keeper}
 use Rattle.durable_map.proofs.Causes.{kept}
 use Rattle.durable_map.proofs.Sections.{of_same_steps}
-use Rattle.durable_map.proofs.Between.{past}
 use Rattle.durable_map.proofs.Sealed.{logs_stepped}
 use Rattle.durable_map.proofs.locked_keeper.LockedKeeper.advance_logs.Goals as goal
 

@@ -1,10 +1,11 @@
-use Rattle.std.proofs.Common.{inl, inr, ℕ, sym, subst}
+use Rattle.std.proofs.Common.{inl, inr, ℕ, ap, sym, subst, ◌∙◌}
+use Rattle.flusher.specs.declared.keeper.Keeper.{Keeper}
 use Rattle.stripe_locks.specs.Passes.{recorded}
 use Rattle.ticket_order.specs.StepRules.{AllLegalSections}
 use Rattle.durable_map.proofs.Causes.{fails}
 use Rattle.durable_map.proofs.Between.{of_kept, failed}
 use Rattle.durable_map.proofs.locked_keeper.LockedKeeper.fail.Goals as goal
-use Rattle.durable_map.proofs.locked_keeper.LockedKeeper.fail.Goals.{then-self-via-then-self, then-self-via-else-self+then-self-2}
+use Rattle.durable_map.proofs.locked_keeper.LockedKeeper.fail.Goals.{then-keeper-via-else-keeper+then-self, then-keeper-via-then-keeper}
 
 pub invariant_of-self : goal.invariant_of-self
 invariant_of-self g c =
@@ -16,5 +17,5 @@ invariant_of-self g c =
     let legal = subst (λ (m : ℕ). AllLegalSections m w w.sections) (sym t.ensures.pass.1) b.captured in (
       c.what_is_kept.ensures legal (λ broken. b.sealed),
       fails old.journal.keeper t.new.self.keeper old.is_full t.ensures.failed.1
-          (elim c.then-self.branch [ then-self-via-then-self w ↦ inl w.if-self.true | then-self-via-else-self+then-self-2 w ↦ inr w.if-self-2.true ]),
+          (elim c.then-keeper.branch [ then-keeper-via-then-keeper w ↦ inl (sym (ap (λ (x : Keeper g.row.D.Denot). x.is_broken) c.keeper.ensures) ∙ w.if-keeper.true) | then-keeper-via-else-keeper+then-self w ↦ inr w.if-self.true ]),
     )

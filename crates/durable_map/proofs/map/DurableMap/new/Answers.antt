@@ -1,25 +1,16 @@
-use Rattle.std.proofs.Common.{rules, ◌≡◌, ◌∙◌, ℕ, [], true, false, sym, ap, subst}
+use Rattle.std.proofs.Common.{◌≡◌, ◌∙◌, ℕ, [], sym, ap, subst}
 use Rattle.std.specs.Arc.{arc_value}
-use Rattle.ticket_order.specs.declared.record.Record.{Record}
-use Rattle.stripe_locks.specs.Passes.{begun_with, recorded, stripe_count}
-use Rattle.stripe_locks.specs.Plays.{joining}
-use Rattle.stripe_locks.specs.declared.stripes.Stripes.{Stripes}
-use Rattle.flusher.specs.KeeperSteps.{is_walking}
-use Rattle.durable_map.specs.LockedKeepers.{Keeps}
-use Rattle.durable_map.proofs.Beginning.{none_captured, unused_at}
-use Rattle.durable_map.proofs.Causes.{none_yet}
+use Rattle.one_history.specs.Turns as turns
+use Rattle.ticket_order.specs.declared.record.Opening.{Opening}
+use Rattle.stripe_locks.specs.Passes.{begun_with, stripe_count}
+use Rattle.flusher.specs.Fitting.{IsKept, IsUnused}
 use Rattle.durable_map.proofs.map.DurableMap.new.Goals as goal
 
-pub new-locked-requires-clause-keeps : goal.new-locked-requires-clause-keeps
-new-locked-requires-clause-keeps g c =
-    let stripes = c.in-Ok.stripes in
-    let p = recorded c.in-Ok-keeper_pass.pass in
-    let first : p ≡ joining (begun_with stripes) 0 = c.in-Ok-keeper_pass.ensures.first in
-    let fits = c.requires.fits p (ap (λ (r : Record). r.opening) first ∙ c.in-Ok.ensures.opening) (unused_at _ _ _ first c.in-Ok.ensures.opening) in
-    let keeps = c.what_is_kept.ensures c.args.keeper.stripes.count [] p fits (ap is_walking c.requires.start.walking) c.requires.start.capture (none_captured _ _ p first) (λ broken. absurd (let no : false ≡ true = sym c.requires.start.working ∙ broken in cc)) in
-    let same : arc_value c.in-Ok-try_clone.shared ≡ stripes = search rules in
-    subst (λ (s : Stripes). Keeps g.D.Disk.states g.D.Disk.honest (stripe_count s) c.args.keeper p) (sym same)
-    (subst (λ (n : ℕ). Keeps g.D.Disk.states g.D.Disk.honest n c.args.keeper p) (sym c.in-Ok.ensures.count) keeps)
-
-pub new-locked-requires-clause-cause : goal.new-locked-requires-clause-cause
-new-locked-requires-clause-cause g c = none_yet c.args.keeper c.requires.start.unfailed
+pub over-requires-clause-fits : goal.over-requires-clause-fits
+over-requires-clause-fits g c = λ p opening unused.
+    let shared = arc_value c.in-Ok-try_clone.shared in
+    let same : shared ≡ c.in-Ok.stripes = c.in-Ok-try_clone.ensures ∙ c.in-Ok-new.ensures.ok in
+    let at : begun_with shared ≡ turns.opening_of c.args.first c.args.parts.items c.args.key_limit = ap begun_with same ∙ c.in-Ok.ensures.opening in
+    let count : stripe_count shared ≡ c.args.keeper.stripes.count = ap stripe_count same ∙ c.in-Ok.ensures.count in
+    subst (λ (n : ℕ). IsKept g.D.Disk.states g.D.Disk.honest n c.args.keeper p) (sym count)
+    ([], c.requires.fits p (opening ∙ at) (subst (λ (o : Opening). IsUnused o.first o.key_limit p) at unused))
