@@ -1,0 +1,365 @@
+"""What a call's contract says of each error that it may return, for tools/contract."""
+import re
+from typing import NamedTuple, Optional
+
+from cited import WORD, code_of, place, uses_of, words_in
+from sources import CLAUSE, blocks_and_calls, comment_of, crate_of, members_of, signature_at, type_at
+from specs import crates, indent_of, lines_of, uses_in
+
+NUMBERED = re.compile(r'#\[error\("(\d+) (\w+)')
+VARIANT = re.compile(r"^    ([A-Z]\w*)\b")
+# The most lines of a definition that stands below what cites it.
+MOST_LINES = 12
+
+
+class Errors(NamedTuple):
+    """A type of errors, with its variants: their number, if they have one, and their comment."""
+    name: str
+    path: str
+    variants: dict
+
+    def title(self, variant):
+        number, comment = self.variants[variant]
+        return f"{number} {variant}".strip() + (f": {comment}" if comment else "")
+
+
+class Statement(NamedTuple):
+    """A clause, an equation, a field or a constructor, and the word that it is of."""
+    owner: str
+    path: str
+    line: int
+    comment: str
+    lines: tuple
+    uses: tuple
+
+    def code(self):
+        return code_of(self.lines, "//" if self.path.endswith(".rt") else "--")
+
+    def place(self):
+        return place(self.path, self.line - 1)
+
+
+def errors_named(call, name):
+    """The type of that name that a call's file may mean, if it is an enum."""
+    used = [crate for line in lines_of(call.path) for crate in re.findall(r"^use (\w+)::", line)]
+    for crate in dict.fromkeys([crate_of(call.path), *used, *crates()]):
+        found = type_at(crate, name)
+        if found and any(re.search(rf"\benum {name}\b", line) for line in found[2]):
+            return Errors(name, found[0], variants_of(found[2]))
+    return None
+
+
+def variants_of(lines):
+    variants, number, comment = {}, "", []
+    for line in lines:
+        numbered, variant = NUMBERED.search(line), VARIANT.match(line)
+        if numbered:
+            number = numbered[1]
+        elif line.startswith("    ///"):
+            comment.append(line.strip()[3:].strip())
+        elif variant:
+            variants[variant[1]] = number, " ".join(comment)
+            number, comment = "", []
+    return variants
+
+
+def error_type(call):
+    """What a call's result has in the place of its error, or None if it has no `Result`."""
+    text = " ".join(signature_at(lines_of(call.path), call.at))
+    text = re.split(r"\b(?:requires|ensures)\b", text)[0].partition("->")[2]
+    at = text.find("Result<")
+    if at < 0:
+        return None
+    depth, parts = 0, [""]
+    for letter in text[at + len("Result<"):]:
+        depth += (letter in "<([") - (letter in ">)]")
+        if depth < 0:
+            break
+        if letter == "," and depth == 0:
+            parts.append("")
+        else:
+            parts[-1] += letter
+    return parts[-1].strip() if len([part for part in parts if part.strip()]) > 1 else "the device's own error"
+
+
+def clauses_of(call):
+    """Each clause of a call as a statement."""
+    lines = lines_of(call.path)
+    signature, found = signature_at(lines, call.at), []
+    for at, line in enumerate(signature):
+        if CLAUSE.match(line):
+            found.append((at, [line]))
+        elif found and not line.strip().startswith("//"):
+            found[-1][1].append(line)
+    for at, own in found:
+        above = [line.strip()[2:].strip() for line in comment_of_clause(signature, at)]
+        yield Statement("clause", call.path, call.at + at + 1, " ".join(above), tuple(own), uses_of(call.path, call.block))
+
+
+def comment_of_clause(lines, at):
+    first = at
+    while lines[first - 1].strip().startswith("//"):
+        first -= 1
+    return lines[first:at]
+
+
+def parts_of(word):
+    """The head of a definition in specs, its comment, and its statements."""
+    text = list(word.text)
+    head = max((at for at, line in enumerate(text) if line == lines_of(word.path)[word.line - 1]), default=None)
+    if head is None or not word.path.endswith(".antt"):
+        return "", "", []
+    above = head
+    while above and text[above - 1].strip().startswith("--"):
+        above -= 1
+    comment = " ".join(line.strip()[2:].strip() for line in text[above:head])
+    depth, is_listed = indent_of(text[head]), re.search(r"\b(?:record|data|codata) ", text[head])
+    end = head + 1
+    while end < len(text) and not (re.search(r"\bwhere$", text[end - 1]) if is_listed else begins(text[end], word.name, depth)):
+        end += 1
+    found, said = [], []
+    inner = min((indent_of(line) for line in text[end:] if line.strip()), default=0)
+    for at in range(end, len(text)):
+        if text[at].strip().startswith("--"):
+            said.append(text[at].strip()[2:].strip())
+        elif text[at].strip() and indent_of(text[at]) <= inner:
+            found.append((at, [text[at]], " ".join(said)))
+            said = []
+        elif found and text[at].strip():
+            found[-1][1].append(text[at])
+    name = word.text[head].split(":")[0].split()
+    owner = word.name if word.name in name or len(name) < 2 else word.name
+    return " ".join(text[:end]), comment, [
+        Statement(owner, word.path, word.line + at - head, said, tuple(own), word.uses) for at, own, said in found]
+
+
+def begins(line, name, depth):
+    return indent_of(line) == depth and line.strip().startswith(name + " ")
+
+
+def scope_of(uses):
+    scope = {}
+    for here, _, parts, name in uses_in(uses):
+        scope.setdefault(here, []).append((parts, name))
+    return scope
+
+
+def named_in(text, uses, errors):
+    """The variants that a text names, in its order."""
+    scope, found = scope_of(uses), []
+    for word in WORD.findall(text):
+        first, *behind = word.split(".")
+        for parts, name in scope.get(first, []):
+            if parts[-2:] == (errors.name, "TheVariants"):
+                found.append(name or (behind[0] if behind else ""))
+            elif parts[-1] == errors.name and behind:
+                found.append(behind[0])
+        if first == errors.name and behind:
+            found.append(behind[0])
+    return list(dict.fromkeys(name for name in found if name in errors.variants))
+
+
+def constructors_in(text, uses, before=""):
+    """The constructors that a text names, by their types."""
+    scope, found = scope_of(uses), {}
+    for word in re.findall(rf"{before}({WORD.pattern})", text):
+        first, *behind = word.split(".")
+        for parts, name in scope.get(first, []):
+            if parts[-1] == "TheVariants" and (name or behind):
+                found.setdefault(parts[:-1], set()).add(name or behind[0])
+    return found
+
+
+def stripped(text):
+    """A text without the brackets around all of it."""
+    text = text.strip()
+    while text.startswith("(") and closes_at(text) == len(text) - 1:
+        text = text[1:-1].strip()
+    return text
+
+
+def closes_at(text):
+    depth = 0
+    for at, letter in enumerate(text):
+        depth += (letter in "({") - (letter in ")}")
+        if depth == 0:
+            return at
+    return -1
+
+
+def alternatives(text):
+    """The parts of a text between its outermost ⊎."""
+    text, depth, parts = stripped(text), 0, [""]
+    for letter in text:
+        depth += (letter in "({") - (letter in ")}")
+        if letter == "⊎" and depth == 0:
+            parts.append("")
+        else:
+            parts[-1] += letter
+    return [text] if len(parts) == 1 else [each for part in parts for each in alternatives(part)]
+
+
+def split_at(text):
+    """What stands before the = or : of a statement, and what behind it."""
+    depth = 0
+    for at, letter in enumerate(text):
+        depth += (letter in "({") - (letter in ")}")
+        if depth == 0 and text[at:at + 3] in (" = ", " : "):
+            return text[:at], text[at + 3:]
+    return "", text
+
+
+def one_line(text):
+    return re.sub(r"\s+", " ", text).strip()
+
+
+class Told:
+    """What the words that speak of a type of errors say of each."""
+
+    def __init__(self, call, clauses, words, errors):
+        self.errors = errors
+        # The words that are handed an error, each with its comment.
+        self.ways = []
+        self.lists, self.others, self.by_error = [], [], {}
+        self.chosen = {}
+        for clause in clauses:
+            for kind, names in constructors_in(clause.code(), clause.uses, r"\(").items():
+                self.chosen.setdefault(kind, set()).update(names)
+            if not CLAUSE.match(clause.lines[0]) or "requires" not in clause.lines[0]:
+                self.statement(clause, None)
+        self.closure([word for word in words if word])
+
+    def closure(self, words):
+        seen = set()
+        while words:
+            following = []
+            for word in words:
+                if (word.path, word.line) in seen:
+                    continue
+                seen.add((word.path, word.line))
+                head, comment, statements = parts_of(word)
+                if not re.search(rf"\b{self.errors.name}\b", head):
+                    continue
+                self.ways.append((word, comment))
+                for statement in statements:
+                    if self.is_meant(statement):
+                        self.statement(statement, comment)
+                        following += [each for each in words_in(statement.code(), word.uses, word.path) if each]
+            words = following
+
+    def is_meant(self, statement):
+        """Whether it may hold of an error, and of what the call's clauses hand it."""
+        before = split_at(statement.code())[0]
+        if re.search(r"\(Ok\b", before):
+            return False
+        there = constructors_in(before, statement.uses)
+        return all(names & self.chosen[kind] for kind, names in there.items()
+                   if kind in self.chosen and kind[-1] != self.errors.name)
+
+    def statement(self, statement, comment):
+        before, behind = split_at(statement.code()) if comment is not None else ("", statement.code())
+        at_head = named_in(before, statement.uses, self.errors)
+        named = named_in(statement.code(), statement.uses, self.errors)
+        if not named:
+            if comment is not None and stripped(behind) == "⊥" and re.search(r"\(Err\b|\b(?:other|e|refusal|error)\b", before):
+                self.others.append((statement, one_line(statement.code())))
+            return
+        whole = one_line(statement.code())
+        if at_head or comment is None:
+            if comment is None and len(named) > 2:
+                self.lists.append((statement, named, comment))
+            else:
+                for name in named:
+                    self.add(name, statement, comment, whole)
+            return
+        parts = alternatives(behind)
+        is_bare = [re.fullmatch(r"\S+ ≡ \S+", part) for part in parts]
+        if all(is_bare) and len(parts) > 1:
+            self.lists.append((statement, named, comment))
+            return
+        for part in parts:
+            for name in named_in(part, statement.uses, self.errors):
+                text = whole if len(parts) == 1 else part
+                self.add(name, statement, comment, one_line(text))
+
+    def add(self, name, statement, comment, text):
+        self.by_error.setdefault(name, []).append((statement, comment, text))
+
+
+class Report(NamedTuple):
+    lines: list
+    told: Optional[Told]
+
+
+def errors_of(call, clauses, words):
+    """The lines that tell when each error comes, from the clauses of a call and the words that they cite."""
+    kind = error_type(call)
+    if kind is None:
+        return ["It returns no error."]
+    found = [each for each in (errors_named(call, name) for name in re.findall(r"\b[A-Z]\w*", kind)) if each]
+    if not found:
+        return [f"Its error is {kind}, of which no names are told: see its clauses under IfErr, OnErr or MatchResult."]
+    return [line for errors in found for line in lines_for(Told(call, clauses, words, errors), clauses)]
+
+
+def lines_for(told, clauses):
+    errors = told.errors
+    at = next(number for number, line in enumerate(lines_of(errors.path)) if f"enum {errors.name}" in line)
+    lines = [f"Its errors are of {errors.name}, {place(errors.path, at)}.", ""]
+    for statement, named, _ in told.lists:
+        lines.append(f"These alone, by {statement.owner}, {statement.place()}: "
+                     + ", ".join(errors.title(name).partition(":")[0] for name in sorted(named, key=list(errors.variants).index)))
+    if told.lists:
+        lines.append("")
+    shown = {}
+    for name in errors.variants:
+        if name in told.by_error:
+            lines += [errors.title(name), *of_error(told, told.by_error[name], shown), ""]
+    if not told.by_error and not told.lists:
+        lines += ["No word that it cites names one.", ""]
+    if told.others:
+        lines += ["No other:", *(f"    {text}    {statement.place()}" for statement, text in told.others), ""]
+    general = [each for each in clauses if re.search(r"\b(?:IfErr|OnErr)\b", each.code())]
+    if told.ways or general:
+        lines.append("Of each error:")
+    for clause in general:
+        said = f"{clause.comment}  " if clause.comment else ""
+        lines.append(f"    {said}{one_line(clause.code())}    {clause.place()}")
+    for word, comment in told.ways:
+        lines.append(f"    {word.name}: {comment or '-'}    {place(word.path, word.line - 1)}")
+    return lines
+
+
+def of_error(told, statements, shown):
+    """The statements on one error, and below them the words that say what holds then, each once."""
+    lines, below = [], []
+    ways = {(word.path, word.line) for word, _ in told.ways}
+    for statement, comment, text in statements:
+        said = statement.comment or (comment or "")
+        if said:
+            lines.append(f"    -- {said}")
+        lines.append(f"    {text}    {statement.owner}, {statement.place()}")
+        for word in words_in(text, statement.uses, None if statement.path.endswith(".rt") else statement.path):
+            if word and word.path.endswith(".antt") and (word.path, word.line) not in ways:
+                below.append(word)
+    for word in below:
+        head, comment, _ = parts_of(word)
+        if (word.path, word.line) in shown or not re.search(r"Type 0 *(?:where)?$|Type 0 *=?", head):
+            continue
+        shown[word.path, word.line] = True
+        lines += short_definition(word, comment)
+    return lines
+
+
+def short_definition(word, comment):
+    own = [line for line in word.text if line.strip() and not line.strip().startswith("--")]
+    head = f"        {word.name}: {comment or '-'}    {place(word.path, word.line - 1)}"
+    depth = min(map(indent_of, own), default=0)
+    is_record = " record " in f" {lines_of(word.path)[word.line - 1]}"
+    inside = own if len(own) <= MOST_LINES else []
+    if is_record and inside:
+        first = next((at for at, line in enumerate(own) if re.search(r"\bwhere$", line)), -1) + 1
+        inside = own[first:]
+    elif inside:
+        inside = [line for line in own if not re.match(r" *(?:abbrev |unfoldable |opaque |pub )+", line)]
+    return [head, *("            " + line[depth:] for line in inside)]
