@@ -1,15 +1,17 @@
 """What a call's contract says of each error that it may return, for tools/contract."""
 import re
-from typing import NamedTuple, Optional
+import textwrap
+from typing import NamedTuple
 
-from cited import WORD, code_of, place, uses_of, words_in
-from sources import CLAUSE, blocks_and_calls, comment_of, crate_of, members_of, signature_at, type_at
+from cited import WORD, code_of, is_of_kit, place, uses_of, words_in
+from sources import CLAUSE, crate_of, signature_at, type_at
 from specs import crates, indent_of, lines_of, uses_in
 
 NUMBERED = re.compile(r'#\[error\("(\d+) (\w+)')
 VARIANT = re.compile(r"^    ([A-Z]\w*)\b")
 # The most lines of a definition that stands below what cites it.
-MOST_LINES = 12
+MOST_LINES = 16
+WIDTH = 120
 
 
 class Errors(NamedTuple):
@@ -63,10 +65,14 @@ def variants_of(lines):
     return variants
 
 
+def result_of(call):
+    text = " ".join(signature_at(lines_of(call.path), call.at))
+    return re.split(r"\b(?:requires|ensures)\b", text)[0].partition("->")[2]
+
+
 def error_type(call):
     """What a call's result has in the place of its error, or None if it has no `Result`."""
-    text = " ".join(signature_at(lines_of(call.path), call.at))
-    text = re.split(r"\b(?:requires|ensures)\b", text)[0].partition("->")[2]
+    text = result_of(call)
     at = text.find("Result<")
     if at < 0:
         return None
@@ -127,10 +133,8 @@ def parts_of(word):
             said = []
         elif found and text[at].strip():
             found[-1][1].append(text[at])
-    name = word.text[head].split(":")[0].split()
-    owner = word.name if word.name in name or len(name) < 2 else word.name
     return " ".join(text[:end]), comment, [
-        Statement(owner, word.path, word.line + at - head, said, tuple(own), word.uses) for at, own, said in found]
+        Statement(word.name, word.path, word.line + at - head, said, tuple(own), word.uses) for at, own, said in found]
 
 
 def begins(line, name, depth):
@@ -201,7 +205,7 @@ def alternatives(text):
 
 def split_at(text):
     """What stands before the = or : of a statement, and what behind it."""
-    depth = 0
+    text, depth = one_line(text), 0
     for at, letter in enumerate(text):
         depth += (letter in "({") - (letter in ")}")
         if depth == 0 and text[at:at + 3] in (" = ", " : "):
@@ -210,7 +214,7 @@ def split_at(text):
 
 
 def one_line(text):
-    return re.sub(r"\s+", " ", text).strip()
+    return re.sub(r"^pub ", "", re.sub(r"\s+", " ", text).strip())
 
 
 class Told:
@@ -221,6 +225,8 @@ class Told:
         # The words that are handed an error, each with its comment.
         self.ways = []
         self.lists, self.others, self.by_error = [], [], {}
+        # The statements that cite a word, by its place.
+        self.citing = {}
         self.chosen = {}
         for clause in clauses:
             for kind, names in constructors_in(clause.code(), clause.uses, r"\(").items():
@@ -244,7 +250,10 @@ class Told:
                 for statement in statements:
                     if self.is_meant(statement):
                         self.statement(statement, comment)
-                        following += [each for each in words_in(statement.code(), word.uses, word.path) if each]
+                        cited = [each for each in words_in(split_at(statement.code())[1], word.uses, word.path) if each]
+                        for each in cited:
+                            self.citing.setdefault((each.path, each.line), []).append(statement)
+                        following += cited
             words = following
 
     def is_meant(self, statement):
@@ -286,29 +295,33 @@ class Told:
         self.by_error.setdefault(name, []).append((statement, comment, text))
 
 
-class Report(NamedTuple):
-    lines: list
-    told: Optional[Told]
-
-
 def errors_of(call, clauses, words):
     """The lines that tell when each error comes, from the clauses of a call and the words that they cite."""
     kind = error_type(call)
+    returned = result_of(call) if kind is None else kind
+    found = [each for each in (errors_named(call, name) for name in re.findall(r"\b[A-Z]\w*", returned)) if each]
     if kind is None:
-        return ["It returns no error."]
-    found = [each for each in (errors_named(call, name) for name in re.findall(r"\b[A-Z]\w*", kind)) if each]
+        told = [Told(call, clauses, words, each) for each in found]
+        return [line for each in told if each.by_error for line in lines_for(each, clauses)] or ["It returns no error."]
     if not found:
         return [f"Its error is {kind}, of which no names are told: see its clauses under IfErr, OnErr or MatchResult."]
     return [line for errors in found for line in lines_for(Told(call, clauses, words, errors), clauses)]
 
 
+def wrapped(text, place_of_it="", indent="    "):
+    """A text in lines of at most this width, with its place behind it."""
+    whole = text + (f"    {place_of_it}" if place_of_it else "")
+    return textwrap.wrap(whole, WIDTH, initial_indent=indent, subsequent_indent=indent + "    ", break_long_words=False,
+                         break_on_hyphens=False)
+
+
 def lines_for(told, clauses):
     errors = told.errors
     at = next(number for number, line in enumerate(lines_of(errors.path)) if f"enum {errors.name}" in line)
-    lines = [f"Its errors are of {errors.name}, {place(errors.path, at)}.", ""]
+    lines = [f"Of {errors.name}, {place(errors.path, at)}:", ""]
     for statement, named, _ in told.lists:
-        lines.append(f"These alone, by {statement.owner}, {statement.place()}: "
-                     + ", ".join(errors.title(name).partition(":")[0] for name in sorted(named, key=list(errors.variants).index)))
+        numbers = [errors.title(name).partition(":")[0] for name in sorted(named, key=list(errors.variants).index)]
+        lines += wrapped(f"{', '.join(numbers)} alone, by {statement.owner}", statement.place(), "")
     if told.lists:
         lines.append("")
     shown = {}
@@ -318,48 +331,87 @@ def lines_for(told, clauses):
     if not told.by_error and not told.lists:
         lines += ["No word that it cites names one.", ""]
     if told.others:
-        lines += ["No other:", *(f"    {text}    {statement.place()}" for statement, text in told.others), ""]
-    general = [each for each in clauses if re.search(r"\b(?:IfErr|OnErr)\b", each.code())]
-    if told.ways or general:
-        lines.append("Of each error:")
-    for clause in general:
-        said = f"{clause.comment}  " if clause.comment else ""
-        lines.append(f"    {said}{one_line(clause.code())}    {clause.place()}")
+        lines += ["No other:", *sum((wrapped(text, statement.place()) for statement, text in told.others), []), ""]
+    general = []
+    for clause in clauses:
+        if re.search(r"\b(?:IfErr|OnErr)\b", clause.code()) and clause.place() not in shown:
+            general += wrapped(f"-- {clause.comment}") if clause.comment else []
+            general += wrapped(one_line(clause.code()), clause.place())
     for word, comment in told.ways:
-        lines.append(f"    {word.name}: {comment or '-'}    {place(word.path, word.line - 1)}")
-    return lines
+        is_said = any(statement.owner == word.name and statement.path == word.path
+                      for each in told.by_error.values() for statement, _, _ in each)
+        if comment and not is_said and is_claim(word):
+            general += wrapped(f"{word.name}: {comment}", place(word.path, word.line - 1))
+    return [*lines, "Of each error:", *general] if general else lines
+
+
+def is_claim(word):
+    """Whether a word of specs says something of what it is handed."""
+    head = parts_of(word)[0]
+    return bool(re.search(r"Type 0(?: where)?$", head.strip())) and not re.search(rf"(?:record|data) {word.name} : Type 0", head)
+
+
+def is_never(text):
+    return bool(re.search(r"≡ \(?\w[^→]*→ ⊥$", text))
 
 
 def of_error(told, statements, shown):
     """The statements on one error, and below them the words that say what holds then, each once."""
-    lines, below = [], []
+    lines, below, said_last = [], [], None
     ways = {(word.path, word.line) for word, _ in told.ways}
-    for statement, comment, text in statements:
-        said = statement.comment or (comment or "")
-        if said:
-            lines.append(f"    -- {said}")
-        lines.append(f"    {text}    {statement.owner}, {statement.place()}")
-        for word in words_in(text, statement.uses, None if statement.path.endswith(".rt") else statement.path):
-            if word and word.path.endswith(".antt") and (word.path, word.line) not in ways:
-                below.append(word)
-    for word in below:
-        head, comment, _ = parts_of(word)
-        if (word.path, word.line) in shown or not re.search(r"Type 0 *(?:where)?$|Type 0 *=?", head):
+    order = sorted(statements, key=lambda each: (not is_never(each[2]), each[0].owner == "clause" and is_of_several(told, each)))
+    for statement, comment, text in order:
+        if statement.owner == "clause" and statement.place() in shown:
+            lines += wrapped("and the clause above", statement.place())
             continue
-        shown[word.path, word.line] = True
-        lines += short_definition(word, comment)
+        shown[statement.place()] = True
+        said = statement.comment or (comment or "")
+        if said and said != said_last:
+            lines += wrapped(f"-- {said}")
+        said_last = said
+        bare = re.fullmatch(r"\S+ ≡ \S+", text)
+        never = "not at all where this is kept: " if is_never(text) else ""
+        lines += wrapped(never + text + (", for no cause that is told" if bare else ""),
+                         f"{statement.owner}, {statement.place()}")
+        for handed in handed_to(told, statement, text):
+            lines += wrapped(f"handed to it: {one_line(handed.code())}", f"{handed.owner}, {handed.place()}", "      ")
+            below += words_in(handed.code(), handed.uses, handed.path)
+        below += words_in(text, statement.uses, None if statement.path.endswith(".rt") else statement.path)
+    for word in below:
+        if not word or (word.path, word.line) in ways or is_of_kit(word.path) or not word.path.endswith(".antt"):
+            continue
+        if (word.path, word.line) not in shown and is_claim(word):
+            shown[word.path, word.line] = True
+            lines += short_definition(word, parts_of(word)[1])
     return lines
+
+
+def is_of_several(told, each):
+    return len(named_in(each[0].code(), each[0].uses, told.errors)) > 1
+
+
+def handed_to(told, statement, text):
+    """The statements by which a word got the claims that this part of it has by a name alone."""
+    before = split_at(statement.code())[0]
+    scope = scope_of(statement.uses)
+    claims = [word for word in re.findall(r"(?<![\w.])[A-Z]\w+", text)
+              if word not in scope and word != statement.owner and re.search(rf"(?<!\()\b{word}\b", before)]
+    if not claims or statement.owner == "clause":
+        return []
+    return [citing for (path, line), all_of_it in told.citing.items() if path == statement.path
+            and any(word.name == statement.owner and word.line == line for word, _ in told.ways)
+            for citing in all_of_it if citing.owner != statement.owner][:3]
 
 
 def short_definition(word, comment):
     own = [line for line in word.text if line.strip() and not line.strip().startswith("--")]
-    head = f"        {word.name}: {comment or '-'}    {place(word.path, word.line - 1)}"
+    lines = wrapped(f"{word.name}: {comment}" if comment else word.name, place(word.path, word.line - 1), "      ")
     depth = min(map(indent_of, own), default=0)
-    is_record = " record " in f" {lines_of(word.path)[word.line - 1]}"
-    inside = own if len(own) <= MOST_LINES else []
-    if is_record and inside:
+    if len(own) > MOST_LINES:
+        return lines
+    if " record " in f" {lines_of(word.path)[word.line - 1]}":
         first = next((at for at, line in enumerate(own) if re.search(r"\bwhere$", line)), -1) + 1
-        inside = own[first:]
-    elif inside:
-        inside = [line for line in own if not re.match(r" *(?:abbrev |unfoldable |opaque |pub )+", line)]
-    return [head, *("            " + line[depth:] for line in inside)]
+        own, depth = own[first:], min(map(indent_of, own[first:]), default=0)
+    else:
+        own = [line for line in own if not re.match(r" *(?:abbrev |unfoldable |opaque |pub )+", line)]
+    return [*lines, *("          " + line[depth:].replace("pub ", "", 1) for line in own)]
