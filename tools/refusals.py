@@ -302,7 +302,7 @@ def errors_of(call, clauses, words):
     found = [each for each in (errors_named(call, name) for name in re.findall(r"\b[A-Z]\w*", returned)) if each]
     if kind is None:
         told = [Told(call, clauses, words, each) for each in found]
-        return [line for each in told if each.by_error for line in lines_for(each, clauses)] or ["It returns no error."]
+        return [line for each in told if each.by_error for line in lines_for(each, clauses)] or ["It returns none."]
     if not found:
         return [f"Its error is {kind}, of which no names are told: see its clauses under IfErr, OnErr or MatchResult."]
     return [line for errors in found for line in lines_for(Told(call, clauses, words, errors), clauses)]
@@ -404,7 +404,9 @@ def handed_to(told, statement, text):
 
 
 def short_definition(word, comment):
-    own = [line for line in word.text if line.strip() and not line.strip().startswith("--")]
+    text = list(word.text)
+    own = [line for line in text[text.index(lines_of(word.path)[word.line - 1]):]
+           if line.strip() and not line.strip().startswith("--")]
     lines = wrapped(f"{word.name}: {comment}" if comment else word.name, place(word.path, word.line - 1), "      ")
     depth = min(map(indent_of, own), default=0)
     if len(own) > MOST_LINES:
