@@ -348,7 +348,8 @@ def lines_for(told, clauses):
 def is_claim(word):
     """Whether a word of specs says something of what it is handed."""
     head = parts_of(word)[0]
-    return bool(re.search(r"Type 0(?: where)?$", head.strip())) and not re.search(rf"(?:record|data) {word.name} : Type 0", head)
+    is_type = re.search(rf"(?:record|data) {word.name} : Type 0", head) and "module _" not in head
+    return bool(re.search(r"Type 0(?: where)?$", head.strip())) and not is_type
 
 
 def is_never(text):
