@@ -3,9 +3,10 @@ import re
 import textwrap
 from typing import NamedTuple
 
-from cited import WORD, code_of, is_of_kit, place, uses_of, words_in
-from sources import CLAUSE, crate_of, signature_at, type_at
+from cited import WORD, is_of_kit, place, words_in
+from sources import crate_of, signature_at, type_at
 from specs import crates, indent_of, lines_of, uses_in
+from statements import alternatives, one_line, parts_of, split_at, stripped
 
 NUMBERED = re.compile(r'#\[error\("(\d+) (\w+)')
 VARIANT = re.compile(r"^    ([A-Z]\w*)\b")
@@ -23,22 +24,6 @@ class Errors(NamedTuple):
     def title(self, variant):
         number, comment = self.variants[variant]
         return f"{number} {variant}".strip() + (f": {comment}" if comment else "")
-
-
-class Statement(NamedTuple):
-    """A clause, an equation, a field or a constructor, and the word that it is of."""
-    owner: str
-    path: str
-    line: int
-    comment: str
-    lines: tuple
-    uses: tuple
-
-    def code(self):
-        return code_of(self.lines, "//" if self.path.endswith(".rt") else "--")
-
-    def place(self):
-        return place(self.path, self.line - 1)
 
 
 def errors_named(call, name):
@@ -88,59 +73,6 @@ def error_type(call):
     return parts[-1].strip() if len([part for part in parts if part.strip()]) > 1 else "the device's own error"
 
 
-def clauses_of(call):
-    """Each clause of a call as a statement."""
-    lines = lines_of(call.path)
-    signature, found = signature_at(lines, call.at), []
-    for at, line in enumerate(signature):
-        if CLAUSE.match(line):
-            found.append((at, [line]))
-        elif found and not line.strip().startswith("//"):
-            found[-1][1].append(line)
-    for at, own in found:
-        above = [line.strip()[2:].strip() for line in comment_of_clause(signature, at)]
-        yield Statement("clause", call.path, call.at + at + 1, " ".join(above), tuple(own), uses_of(call.path, call.block))
-
-
-def comment_of_clause(lines, at):
-    first = at
-    while lines[first - 1].strip().startswith("//"):
-        first -= 1
-    return lines[first:at]
-
-
-def parts_of(word):
-    """The head of a definition in specs, its comment, and its statements."""
-    text = list(word.text)
-    head = max((at for at, line in enumerate(text) if line == lines_of(word.path)[word.line - 1]), default=None)
-    if head is None or not word.path.endswith(".antt"):
-        return "", "", []
-    above = head
-    while above and text[above - 1].strip().startswith("--"):
-        above -= 1
-    comment = " ".join(line.strip()[2:].strip() for line in text[above:head])
-    depth, is_listed = indent_of(text[head]), re.search(r"\b(?:record|data|codata) ", text[head])
-    end = head + 1
-    while end < len(text) and not (re.search(r"\bwhere$", text[end - 1]) if is_listed else begins(text[end], word.name, depth)):
-        end += 1
-    found, said = [], []
-    inner = min((indent_of(line) for line in text[end:] if line.strip()), default=0)
-    for at in range(end, len(text)):
-        if text[at].strip().startswith("--"):
-            said.append(text[at].strip()[2:].strip())
-        elif text[at].strip() and indent_of(text[at]) <= inner:
-            found.append((at, [text[at]], " ".join(said)))
-            said = []
-        elif found and text[at].strip():
-            found[-1][1].append(text[at])
-    return " ".join(text[:end]), comment, [
-        Statement(word.name, word.path, word.line + at - head, said, tuple(own), word.uses) for at, own, said in found]
-
-
-def begins(line, name, depth):
-    return indent_of(line) == depth and line.strip().startswith(name + " ")
-
-
 def scope_of(uses):
     scope = {}
     for here, _, parts, name in uses_in(uses):
@@ -174,49 +106,6 @@ def constructors_in(text, uses, before=""):
     return found
 
 
-def stripped(text):
-    """A text without the brackets around all of it."""
-    text = text.strip()
-    while text.startswith("(") and closes_at(text) == len(text) - 1:
-        text = text[1:-1].strip()
-    return text
-
-
-def closes_at(text):
-    depth = 0
-    for at, letter in enumerate(text):
-        depth += (letter in "({") - (letter in ")}")
-        if depth == 0:
-            return at
-    return -1
-
-
-def alternatives(text):
-    """The parts of a text between its outermost ⊎."""
-    text, depth, parts = stripped(text), 0, [""]
-    for letter in text:
-        depth += (letter in "({") - (letter in ")}")
-        if letter == "⊎" and depth == 0:
-            parts.append("")
-        else:
-            parts[-1] += letter
-    return [text] if len(parts) == 1 else [each for part in parts for each in alternatives(part)]
-
-
-def split_at(text):
-    """What stands before the = or : of a statement, and what behind it."""
-    text, depth = one_line(text), 0
-    for at, letter in enumerate(text):
-        depth += (letter in "({") - (letter in ")}")
-        if depth == 0 and text[at:at + 3] in (" = ", " : "):
-            return text[:at], text[at + 3:]
-    return "", text
-
-
-def one_line(text):
-    return re.sub(r"^pub ", "", re.sub(r"\s+", " ", text).strip())
-
-
 class Told:
     """What the words that speak of a type of errors say of each."""
 
@@ -231,7 +120,7 @@ class Told:
         for clause in clauses:
             for kind, names in constructors_in(clause.code(), clause.uses, r"\(").items():
                 self.chosen.setdefault(kind, set()).update(names)
-            if not CLAUSE.match(clause.lines[0]) or "requires" not in clause.lines[0]:
+            if "requires" not in clause.lines[0]:
                 self.statement(clause, None)
         self.closure([word for word in words if word])
 
