@@ -1,12 +1,16 @@
 """Reads the definitions in the specs/ of the crates, for the tools beside it."""
 import functools
+import glob
 import os
 import re
+import subprocess
 from typing import NamedTuple
 
 TOP = os.path.dirname(os.path.dirname(os.path.abspath(__file__)))
 # The head of a definition that other files may cite.
 HEAD = re.compile(r"^ *(?:(?:abbrev|unfoldable|opaque) )?pub (?:(?:record|data|codata) )?([^\s:(){}]+)[^=]*:")
+# The head of one that its own file alone may cite.
+OWN_HEAD = re.compile(r"^ *(?:abbrev |unfoldable |opaque |record |data |codata )+([^\s:(){}]+)[^=]*:")
 FIELD = re.compile(r"^ +pub \w+ :")
 MODULE = re.compile(r"^ *module _ ")
 # What ends without `where` on its line goes on in the next.
@@ -50,6 +54,10 @@ def comment_above(lines, at, mark):
     return at
 
 
+def head_of(line):
+    return HEAD.match(line) or OWN_HEAD.match(line)
+
+
 def end_of(lines, at, name):
     """Returns the number of the line behind a definition: its fields are further in, its equations begin with its name."""
     depth = indent_of(lines[at])
@@ -59,7 +67,7 @@ def end_of(lines, at, name):
             behind = next((later for later in lines[number:] if later.strip()), "")
             if indent_of(behind) <= depth:
                 return number
-        elif indent_of(line) <= depth and HEAD.match(line) and not line.lstrip().startswith(name + " "):
+        elif indent_of(line) <= depth and head_of(line) and not line.lstrip().startswith(name + " "):
             return number
     return len(lines)
 
@@ -71,8 +79,8 @@ def end_of_head(lines, at):
     return at + 1
 
 
-def definitions_in(path):
-    """Returns what a file defines for others, in its order."""
+def definitions_in(path, head_of_line=HEAD.match):
+    """Returns what a file defines for others, in its order; with `head_of`, what it defines for itself alone too."""
     lines, found, comment, is_open, around = lines_of(path), [], "", False, []
     of_file = lines[0][2:].strip() if lines and lines[0].startswith("--") else ""
     for at, line in enumerate(lines):
@@ -88,7 +96,7 @@ def definitions_in(path):
         around = [number for number in around if indent_of(lines[number]) < indent_of(line)]
         if MODULE.match(line):
             around.append(at)
-        head = HEAD.match(line)
+        head = head_of_line(line)
         if head and not FIELD.match(line):
             modules = [lines[comment_above(lines, top, "--"):end_of_head(lines, top)] for top in around]
             own = lines[comment_above(lines, at, "--"):end_of(lines, at, head[1])]
@@ -118,7 +126,7 @@ def uses_in(lines):
 def words_of(path):
     """Returns the definitions of a file by their names, and those of `data` by the names of their constructors too."""
     words = {}
-    for found in definitions_in(path):
+    for found in definitions_in(path, head_of):
         if " data " in f" {lines_of(path)[found.line - 1]}":
             depth = indent_of(lines_of(path)[found.line - 1]) + 2
             for line in found.text:
@@ -129,9 +137,26 @@ def words_of(path):
     return words
 
 
+@functools.lru_cache(maxsize=None)
+def kit():
+    """Returns the folder of the crates that come with Rattle, beside the page that `rt doc` prints; None if there is no rt."""
+    try:
+        page = subprocess.run(["rt", "doc"], stdout=subprocess.PIPE, check=True).stdout.decode().split()
+    except (OSError, subprocess.CalledProcessError):
+        return None
+    folders = glob.glob(f"{os.path.dirname(page[0])}/*/std/specs") if page else []
+    return os.path.dirname(os.path.dirname(folders[0])) if folders else None
+
+
+def specs_of(crate):
+    """Returns the folder of the specs of a crate, of this repository or of Rattle."""
+    own = f"{TOP}/crates/{crate}/specs"
+    return own if os.path.isdir(own) or not kit() else f"{kit()}/{crate}/specs"
+
+
 def definition_of(crate, parts, name):
     """Returns the definition of a name in a file of the crate's specs, or in what that file hands on; or None."""
-    path = f"{TOP}/crates/{crate}/specs/{'/'.join(parts)}.antt"
+    path = f"{specs_of(crate)}/{'/'.join(parts)}.antt"
     if name in words_of(path):
         return words_of(path)[name]
     for here, other, place, there in uses_in(line for line in lines_of(path) if line.startswith("pub use")):
