@@ -85,8 +85,8 @@ pub record IsAtStart {D : Type 0} (stripes : StripeCount) (first : ℕ) (keeper 
   pub working : keeper.is_broken ≡ false
   pub unfailed : keeper.has_failed ≡ false
 
--- Opening the disk was refused (7, 9, 11, 12 or 13), and nothing was written to it. On an honest disk the files give the
--- reason.
+-- Opening the disk was refused (7, 9, 11, 12 or 13), and nothing was written to it. On an honest disk the files give
+-- the reason.
 pub record IsNotOpened {D : Type 0} (states : D → List Files) (failures : D → ℕ) (honest : D → Type 0) (old new : D)
     (refusal : Refusal) : Type 0 where
   pub stopped : Stopped states failures honest 4 old new refusal
