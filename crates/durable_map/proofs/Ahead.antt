@@ -1,5 +1,5 @@
--- What stays where zeros are written ahead in a log, and where their number is set.
-use Rattle.std.proofs.Common.{◌≡◌, ◌⊎◌, inl, inr, ℕ, ◌+◌, Bool, true, false, List, Result, Ok, Err, OnOk, OnErr, replicate, sym, ap, subst, ◌∙◌}
+-- What stays where zeros are written ahead in a log.
+use Rattle.std.proofs.Common.{◌≡◌, ◌⊎◌, inl, inr, ℕ, ◌+◌, Bool, true, false, List, Result, Ok, Err, OnOk, replicate, sym, subst, ◌∙◌}
 use Rattle.disk_model.specs.Files.{Files, now}
 use Rattle.disk_model.specs.Gates.{writes}
 use Rattle.map_types.specs.declared.refusals.Refusal.{Refusal}
@@ -30,11 +30,3 @@ module _ {D : Type 0} (states : D → List Files) (failures : D → ℕ) (honest
   written_ahead old new result true is failed ahead works sealed k broken = sealed_after states failures honest old new (failed is).1 k
   written_ahead old new (Ok x) false is failed ahead works sealed k broken = absurd (let no : false ≡ true = sym works ∙ broken in cc)
   written_ahead old new (Err e) false is failed ahead works sealed k broken = none_fails old new e sealed (ahead is) k
-
--- ---- how many zeros are written at a time
-
-module _ {D : Type 0} (old new : Keeper D) where
-  -- they alone were set, or nothing was
-  pub but_for_zeros : (count : ℕ) (result : Result (Unit {0}) Refusal) → OnOk result (new ≡ record old { zeros = count }) → OnErr result (new ≡ old) → new ≡ record old { zeros = new.zeros }
-  but_for_zeros count (Ok done) ok err = subst (λ (z : ℕ). new ≡ record old { zeros = z }) (sym (ap (λ (k : Keeper D). k.zeros) ok)) ok
-  but_for_zeros count (Err e) ok err = subst (λ (z : ℕ). new ≡ record old { zeros = z }) (sym (ap (λ (k : Keeper D). k.zeros) err)) err

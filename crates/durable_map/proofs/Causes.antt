@@ -1,5 +1,5 @@
 -- A FAIL that was made keeps its cause.
-use Rattle.std.proofs.Common.{◌≡◌, ◌⊎◌, inl, inr, ℕ, Result, Ok, Err, IfOk, IfErr, OnOk, OnErr, Bool, true, false, refl, sym, ap, subst, ◌∙◌}
+use Rattle.std.proofs.Common.{◌≡◌, ◌⊎◌, inl, inr, ℕ, Result, Ok, Err, IfOk, IfErr, OnOk, OnErr, Bool, true, false, sym, ap, subst, ◌∙◌}
 use Rattle.map_types.specs.declared.refusals.Refusal.{Refusal}
 use Rattle.map_types.specs.declared.refusals.Refusal.TheVariants as refusal
 use Rattle.ticket_order.specs.declared.record.Record.{Record}
@@ -61,11 +61,3 @@ module _ {D : Type 0} (n stripe : ℕ) (old new : Keeper D) (p w : Record) (is_f
   pub captured : (result : Result ℕ Refusal) → IfOk result (λ mark. GivesSection n p stripe mark old new w) → IfErr result (AfterRefusal stripe old new p w) → HasCause is_full new
   captured (Ok mark) ok err = subst (λ (x : Keeper D). HasCause is_full x) (sym ok.is) (record { cause = k.cause })
   captured (Err e) ok err = refused e err
-
--- a file was found full
-pub found_full : {D : Type 0} (keeper : Keeper D) → HasCause true keeper
-found_full keeper = record { cause = λ now. inr refl }
-
--- no FAIL was made yet
-pub none_yet : {D : Type 0} (keeper : Keeper D) → keeper.has_failed ≡ false → HasCause false keeper
-none_yet keeper works = record { cause = λ now. absurd (let no : false ≡ true = sym works ∙ now in cc) }

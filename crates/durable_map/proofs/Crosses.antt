@@ -2,7 +2,7 @@
 use denote.RattleType.{RattleType}
 use denote.Param.Send.{IsSend, IsSync, AllSend, AllSync, sendable, view_send, struct_send, struct_sync, recorded_send, recorded_sync}
 use denote.Struct.Declared.{shape}
-use Rattle.std.proofs.Crossing.{crosses, Vec-send, Box-send}
+use Rattle.std.proofs.Crossing.{crosses}
 use Rattle.std.proofs.Crossing as heap
 use Rattle.disk_model.specs.declared.disk.Disk.{Ghosts}
 use Rattle.atomic_table.proofs.shared.Shared.TheSendSync as shared

@@ -1,7 +1,6 @@
 pub mod Growing
 pub mod Answering
 mod Refusing
-mod Beginning
 mod KeeperLaws
 mod Sections
 mod Between
