@@ -5,8 +5,9 @@
 use std::sync::atomic::{AtomicU64, Ordering};
 use stripe_locks::Stripes;
 
-/// A batch that waits has at most so many changes. A larger one is worth its syncs as it is.
-const MOST_EXPECTED: u64 = 16;
+/// A batch that waits has at most so many changes. Of more changes that come back, half wait already as
+/// the others are committed. The halves then keep the disk busy by turns, and a wait would let it rest.
+const MOST_EXPECTED: u64 = 8;
 
 /// How often a thread looks at most whether those that are expected have come. That takes about a tenth of
 /// a millisecond.
