@@ -14,7 +14,7 @@ use ticket_order::Position;
 /// The token of what wakes a worker.
 pub(crate) const WAKE: Token = Token(usize::MAX);
 
-/// The bells of all workers, which are rung after each turn of the log.
+/// The bells of all workers, one of which is rung after each turn of the log.
 #[derive(Drop)]
 pub(crate) struct Chime<'a, D: Disk + Drop> {
     pub(crate) map: &'a DurableMap<D>,
@@ -27,8 +27,16 @@ impl<D: Disk + Drop> Ends for Chime<'_, D> {
     }
 
     fn turn_ended(&self) {
-        for bell in self.bells {
-            bell.ring_for(self.map);
+        ring_next(self.bells, self.map);
+    }
+}
+
+/// Wakes the first worker that waits for a position that is durable, if one does. That worker wakes the
+/// next one so, and the log goes on behind one wake.
+pub(crate) fn ring_next<D: Disk + Drop>(bells: &[Bell], map: &DurableMap<D>) {
+    for bell in bells {
+        if bell.ring_for(map) {
+            return;
         }
     }
 }
@@ -86,14 +94,16 @@ impl Bell {
     }
 
     /// Wakes the worker, if it waits for a position that is durable, or if the store has failed.
-    /// Nothing is asked of the system for one that waits for none.
-    pub fn ring_for<D: Disk + Drop>(&self, map: &DurableMap<D>) {
+    /// Nothing is asked of the system for one that waits for none. It says whether it was woken.
+    pub fn ring_for<D: Disk + Drop>(&self, map: &DurableMap<D>) -> bool {
         let number = self.awaited.load(Ordering::SeqCst);
         if number == 0 || !map.may_finish_at(Position::new(number)) {
-            return;
+            return false;
         }
-        if self.awaited.swap(0, Ordering::SeqCst) != 0 {
+        let waits = self.awaited.swap(0, Ordering::SeqCst) != 0;
+        if waits {
             self.ring();
         }
+        waits
     }
 }

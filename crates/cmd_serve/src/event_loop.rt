@@ -1,7 +1,7 @@
 //! The rounds of a worker, which serves many clients at once.
 
 use crate::begun::Begun;
-use crate::bells::{Chime, WAKE};
+use crate::bells::{Chime, WAKE, ring_next};
 use crate::desk::Desk;
 use connections::Calls;
 use disk_model::Disk;
@@ -159,6 +159,7 @@ impl<'a, D: Disk + Drop, R: Clock + Wait, C: Calls<Held = Begun> + Drop> Desk<'a
         for event in events.iter() {
             let token = event.token();
             if token == WAKE {
+                ring_next(self.bells, self.map);
                 self.welcome_all();
                 self.welcome_back();
             } else {

@@ -1,7 +1,7 @@
 //! The loops of a map and the workers that serve it, each on a thread of its own.
 ghost use Rattle.std.specs.Prelude.{◌≡◌, IfErr};
 
-use crate::bells::Bell;
+use crate::bells::{Bell, ring_next};
 use crate::figures::Figures;
 use crate::observer::Observer;
 use crate::pool::{Arrivals, workers};
@@ -58,7 +58,7 @@ impl<D: Disk + Drop, O: Observer, R: Clock + Figures + Log> Ends for Ending<'_, 
     }
 
     fn turn_ended(&self) {
-        self.ring();
+        ring_next(self.bells, self.map);
     }
 
     fn checkpoint_sealed(&self, sealed: &SealedCheckpoint) {
