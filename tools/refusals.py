@@ -3,7 +3,7 @@ import re
 import textwrap
 from typing import NamedTuple
 
-from cited import WORD, is_of_kit, place, words_in
+from cited import WORD, is_of_kit, place, words_in, words_of_word
 from sources import crate_of, signature_at, type_at
 from specs import crates, indent_of, lines_of, uses_in
 from statements import alternatives, one_line, parts_of, split_at, stripped
@@ -12,6 +12,8 @@ NUMBERED = re.compile(r'#\[error\("(\d+) (\w+)')
 VARIANT = re.compile(r"^    ([A-Z]\w*)\b")
 # The most lines of a definition that stands below what cites it.
 MOST_LINES = 16
+# Of a type with so many errors at most it is told which are named nowhere.
+MOST_UNNAMED = 8
 WIDTH = 120
 
 
@@ -117,12 +119,13 @@ class Told:
         # The statements that cite a word, by its place.
         self.citing = {}
         self.chosen = {}
+        self.words = [word for word in words if word]
         for clause in clauses:
             for kind, names in constructors_in(clause.code(), clause.uses, r"\(").items():
                 self.chosen.setdefault(kind, set()).update(names)
             if "requires" not in clause.lines[0]:
                 self.statement(clause, None)
-        self.closure([word for word in words if word])
+        self.closure(self.words)
 
     def closure(self, words):
         seen = set()
@@ -180,6 +183,10 @@ class Told:
                 text = whole if len(parts) == 1 else part
                 self.add(name, statement, comment, one_line(text))
 
+    def named(self):
+        """The errors that some statement names."""
+        return {*self.by_error, *(name for _, names, _ in self.lists for name in names)}
+
     def add(self, name, statement, comment, text):
         self.by_error.setdefault(name, []).append((statement, comment, text))
 
@@ -210,7 +217,7 @@ def lines_for(told, clauses):
     lines = [f"Of {errors.name}, {place(errors.path, at)}:", ""]
     for statement, named, _ in told.lists:
         numbers = [errors.title(name).partition(":")[0] for name in sorted(named, key=list(errors.variants).index)]
-        lines += wrapped(f"{', '.join(numbers)} alone, by {statement.owner}", statement.place(), "")
+        lines += wrapped(f"{statement.owner} has {', '.join(numbers)} alone", statement.place(), "")
     if told.lists:
         lines.append("")
     shown = {}
@@ -218,7 +225,10 @@ def lines_for(told, clauses):
         if name in told.by_error:
             lines += [errors.title(name), *of_error(told, told.by_error[name], shown), ""]
     if not told.by_error and not told.lists:
-        lines += ["No word that it cites names one.", ""]
+        lines += [*named_below(told), ""]
+    elif unnamed := [name for name in errors.variants if name not in told.named()]:
+        if len(errors.variants) <= MOST_UNNAMED:
+            lines += [f"No statement that was found names {', '.join(unnamed)}.", ""]
     if told.others:
         lines += ["No other:", *sum((wrapped(text, statement.place()) for statement, text in told.others), []), ""]
     general = []
@@ -232,6 +242,23 @@ def lines_for(told, clauses):
         if comment and not is_said and is_claim(word):
             general += wrapped(f"{word.name}: {comment}", place(word.path, word.line - 1))
     return [*lines, "Of each error:", *general] if general else lines
+
+
+def named_below(told):
+    """The statements that name an error in any word that is cited, however far down. These are handed none by name."""
+    lines, seen, words = [], set(), told.words
+    while words:
+        following = []
+        for word in words:
+            if (word.path, word.line) in seen or is_of_kit(word.path):
+                continue
+            seen.add((word.path, word.line))
+            for statement in parts_of(word)[2]:
+                if named_in(statement.code(), statement.uses, told.errors):
+                    lines += wrapped(one_line(statement.code()), f"{statement.owner}, {statement.place()}")
+            following += [each for each in words_of_word(word) if each]
+        words = following
+    return lines or ["No word that it cites names one."]
 
 
 def is_claim(word):
