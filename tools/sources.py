@@ -122,13 +122,18 @@ def signature_at(lines, at):
     return found
 
 
+def is_closed(text):
+    """Whether a ghost member ends here: each brace is closed."""
+    return text.endswith("};") and text.count("{") == text.count("}")
+
+
 def members_of(block):
     """Yields the ghost members of a block: the name, the number of its line, and its lines with the comment above them."""
     lines = lines_of(block.path)
     for at in range(block.start, block.end):
         member = MEMBER.match(lines[at])
         if member:
-            end = next(number for number in range(at, block.end) if lines[number].endswith("};"))
+            end = next(number for number in range(at, block.end) if is_closed("".join(lines[at:number + 1])))
             yield member[1], at, [*comment_of(lines, at), *lines[at:end + 1]]
 
 
