@@ -14,6 +14,8 @@ from harness import counters, places, servers  # noqa: E402, F401
 # How many threads of the server serve connections; as many as `dchm serve` has if it is told nothing.
 WORKERS = 4
 FILLING = {"connections": 16, "flight": 64, "kind": "fill"}
+# One thread of the load bounds the requests of so many connections.
+MANY_CONNECTIONS, THREADS_OF_MANY = 64, 3
 
 
 def cpu_seconds(process):
@@ -30,16 +32,18 @@ def compile_c(directory, name, *sources):
 
 
 class Load:
-    """The load, built, and how long each of its runs measures."""
+    """The load, built, how long each of its runs measures, and how many threads it has: if nothing is said, as many as a
+    run's connections want."""
 
-    def __init__(self, directory, seconds, threads):
+    def __init__(self, directory, seconds, threads=None):
         self.program = compile_c(directory, "load", "load.c", "load_words.c")
-        self.always = {"seconds": seconds, "threads": threads}
+        self.seconds, self.threads = seconds, threads
 
     def run(self, protocol, place, **options):
         """What one run prints, by its words. The place is a port, or the path of a Unix socket."""
         words = [self.program, protocol, "--port" if isinstance(place, int) else "--socket", str(place)]
-        for name, value in {**self.always, **options}.items():
+        threads = self.threads or (THREADS_OF_MANY if options.get("connections", 1) >= MANY_CONNECTIONS else 1)
+        for name, value in {"seconds": self.seconds, "threads": threads, **options}.items():
             words += [f"--{name}", str(value)]
         output = subprocess.run(words, check=True, stdout=subprocess.PIPE, text=True).stdout
         return {name: float(value) for name, _, value in (line.rpartition(" ") for line in output.splitlines())}

@@ -1,5 +1,5 @@
 //! One stripe's map.
-ghost use Rattle.std.specs.Prelude.{◌≡◌, ◌^◌, ◌-◌, ◌↔◌, IfOk, IfErr, IfSome, OnOk, OnErr, IsTrue, Some, None, min};
+ghost use Rattle.std.specs.Prelude.{◌≡◌, ◌^◌, ◌-◌, ◌↔◌, IfOk, IfErr, IfSome, OnOk, OnErr, IsTrue, Some, None, is_some, min};
 ghost use Rattle.std.specs.Option.{option_copied};
 ghost use Rattle.std.specs.FinMap as finite;
 ghost use Rattle.map_model.specs.Steps.{answer};
@@ -200,6 +200,20 @@ impl Part {
         self.table.len()
     }
 
+    /// How many bins its table has. While a growth runs these are the bins that it began with.
+    pub fn bins(&self) -> usize
+        ensures { result ≡ self.now.growth.bins }
+    {
+        self.table.bins()
+    }
+
+    /// Whether a growth runs.
+    pub fn is_growing(&self) -> bool
+        ensures { result ≡ is_some self.now.growth.moved }
+    {
+        self.table.is_growing()
+    }
+
     /// Whether no key is mapped.
     pub fn is_empty(&self) -> bool
         ensures { IsTrue result ↔ (self.now.map ≡ finite.empty) }
@@ -271,119 +285,4 @@ fn store_action(alloc: Global, key: &Key, value: Value, is_mapped: bool) -> Resu
         return Ok(Action::Replace(value));
     }
     Ok(Action::Insert(Node::new(alloc, key.clone()?, value)?))
-}
-
-#[cfg(test)]
-mod tests {
-    use super::Part;
-    use java_hash::StripeCount;
-    use map_types::{Change, Command, Key, Question, Read, Refusal, Reply, Value};
-    use std::alloc::Global;
-
-    /// What follows the new keys of a row.
-    #[derive(Clone, Copy, Debug)]
-    enum Then {
-        Nothing,
-        RemoveOne,
-        RemoveNone,
-        PutAgain,
-        GetAll,
-    }
-
-    fn key(alloc: Global, number: u32) -> Result<Key, Refusal> {
-        Key::new(alloc, format!(in alloc; "k{number:05}")?.as_str())
-    }
-
-    fn change(part: &mut Part, alloc: Global, key: Key, change: Change) -> Result<(), Refusal> {
-        let command = Command { key, change };
-        let prepared = part.prepare(alloc, &command)?;
-        part.act(&command.key, prepared);
-        Ok(())
-    }
-
-    fn put(part: &mut Part, alloc: Global, number: u32) -> Result<(), Refusal> {
-        let value = Value::Int(i64::from(number));
-        change(part, alloc, key(alloc, number)?, Change::Put(value))
-    }
-
-    /// A part into which `keys` new keys were put, one after another.
-    fn filled(alloc: Global, keys: u32) -> Result<Part, Refusal> {
-        let stripes = StripeCount::new(1).ok_or(Refusal::WrongPhase)?;
-        let mut part = Part::new(alloc, stripes)?;
-        for number in 0..keys {
-            put(&mut part, alloc, number)?;
-        }
-        Ok(part)
-    }
-
-    fn has(part: &Part, alloc: Global, number: u32) -> Result<bool, Refusal> {
-        let reply = part.read(&Read {
-            key: key(alloc, number)?,
-            question: Question::Get,
-        })?;
-        Ok(matches!(reply, Reply::Now(Some(Value::Int(found))) if found == i64::from(number)))
-    }
-
-    /// Whether each of the first `keys` keys is mapped to its number.
-    fn has_all(part: &Part, alloc: Global, keys: u32) -> Result<bool, Refusal> {
-        for number in 0..keys {
-            if !has(part, alloc, number)? {
-                return Ok(false);
-            }
-        }
-        Ok(true)
-    }
-
-    /// Whether all that the row does went well.
-    fn follow(part: &mut Part, alloc: Global, keys: u32, then: Then) -> Result<bool, Refusal> {
-        match then {
-            Then::Nothing => {}
-            Then::RemoveOne => change(part, alloc, key(alloc, 7)?, Change::Remove)?,
-            Then::RemoveNone => change(part, alloc, key(alloc, keys)?, Change::Remove)?,
-            Then::PutAgain => put(part, alloc, 7)?,
-            Then::GetAll => return has_all(part, alloc, keys),
-        }
-        Ok(true)
-    }
-
-    /// Whether all went well, the bins then, and whether a growth runs.
-    fn seen(alloc: Global, keys: u32, then: Then) -> Result<(bool, usize, bool), Refusal> {
-        let mut part = filled(alloc, keys)?;
-        let is_well = follow(&mut part, alloc, keys, then)?;
-        Ok((is_well, part.table.bins(), part.table.is_growing()))
-    }
-
-    #[test]
-    fn changes_grow_a_part(rt: HostRuntime) {
-        for (keys, then, bins, is_growing) in [
-            (1, Then::Nothing, 1, false),
-            (2, Then::Nothing, 2, false),
-            (3, Then::Nothing, 4, false),
-            (4, Then::Nothing, 8, false),
-            (5, Then::Nothing, 8, false),
-            (6, Then::Nothing, 8, false),
-            (7, Then::Nothing, 16, false),
-            (12, Then::Nothing, 16, false),
-            (13, Then::Nothing, 32, false),
-            (24, Then::Nothing, 32, false),
-            (24, Then::RemoveNone, 32, true),
-            (25, Then::Nothing, 32, true),
-            (25, Then::GetAll, 32, true),
-            (25, Then::RemoveOne, 64, false),
-            (25, Then::RemoveNone, 64, false),
-            (25, Then::PutAgain, 64, false),
-            (26, Then::Nothing, 64, false),
-            (48, Then::Nothing, 64, false),
-            (49, Then::Nothing, 64, true),
-            (50, Then::GetAll, 64, true),
-            (51, Then::Nothing, 64, true),
-            (52, Then::GetAll, 128, false),
-        ] {
-            assert_eq!(rt;
-                seen(rt.alloc(), keys, then),
-                Ok((true, bins, is_growing)),
-                "{keys} keys, then {then:?}"
-            );
-        }
-    }
 }

@@ -37,7 +37,8 @@ impl<D: Disk + Drop> DurableMap<D> {
     /// Makes turns until the position is durable, and returns how many commands are committed then. It
     /// returns nothing if what is left is another thread's.
     fn make_turns<E: Ends>(&self, position: Position, ends: &E) -> Result<Option<u64>, Refusal>
-        ensures { IfErr result (λ refusal. (refusal ≡ Refusal.Failed) ⊎ (refusal ≡ Refusal.LogFull)) }
+        ensures { IfErr result (λ refusal. (refusal ≡ Refusal.Failed)
+            ⊎ (refusal ≡ Refusal.LogFull)) }
     {
         for _turn in 0..MOST_TURNS {
             match self.try_turn() {
@@ -63,7 +64,8 @@ impl<D: Disk + Drop> DurableMap<D> {
     /// If a device call has failed, or the log is full, it makes a FAIL and returns `Failed` or
     /// `LogFull`, as `flush_loop` then does too.
     pub fn try_flush<E: Ends>(&self, position: Position, ends: &E) -> Result<bool, Refusal>
-        ensures { IfErr result (λ refusal. (refusal ≡ Refusal.Failed) ⊎ (refusal ≡ Refusal.LogFull)) }
+        ensures { IfErr result (λ refusal. (refusal ≡ Refusal.Failed)
+            ⊎ (refusal ≡ Refusal.LogFull)) }
     {
         if !self.stripes.is_keeper_resting()
             || self.gathering.waiting(&self.stripes) > MOST_WAITING

@@ -88,8 +88,8 @@ impl Stripes {
     /// Stripes of an empty map, with no change made, for any keys.
     pub fn empty(alloc: Global, count: StripeCount) -> Result<Stripes, Refusal>
         ensures count { IfOk result (λ stripes. stripe_count stripes ≡ count.count) }
-        ensures opening { IfOk result (λ stripes.
-            begun_with stripes ≡ record { first = 0; map = finite.empty; key_limit = most_key_bytes }) }
+        ensures opening { IfOk result (λ stripes. begun_with stripes
+            ≡ record { first = 0; map = finite.empty; key_limit = most_key_bytes }) }
         ensures err { IfErr result (λ refusal. refusal ≡ Refusal.NoMemory) }
     {
         let parts = empty_parts(alloc, count)?;

@@ -8,6 +8,8 @@ mod checks;
 #[cfg(test)]
 mod functions;
 #[cfg(test)]
+mod growths;
+#[cfg(test)]
 mod hashes;
 #[cfg(test)]
 mod marks;

@@ -5,7 +5,7 @@ use java_hash::StripeCount;
 use map_types::{Change, Command, Func, FuncError, Key, Question, Read, Refusal, Reply, Value};
 use std::alloc::Global;
 
-fn empty_part(alloc: Global) -> Result<Part, Refusal> {
+pub(crate) fn empty_part(alloc: Global) -> Result<Part, Refusal> {
     match StripeCount::new(16) {
         Some(stripes) => Ok(Part::new(alloc, stripes)?),
         None => Err(Refusal::WrongPhase),
@@ -18,7 +18,7 @@ pub(crate) fn text_of(alloc: Global, len: usize) -> Result<Value, Refusal> {
 }
 
 /// A change, by the number that it puts, or the length of its text.
-enum Step {
+pub(crate) enum Step {
     Put(i64),
     PutText(usize),
     JoinText(usize),
@@ -36,7 +36,7 @@ fn change_of(alloc: Global, step: &Step) -> Result<Change, Refusal> {
     }
 }
 
-fn command(alloc: Global, key: &str, step: &Step) -> Result<Command, Refusal> {
+pub(crate) fn command(alloc: Global, key: &str, step: &Step) -> Result<Command, Refusal> {
     let key = Key::new(alloc, key)?;
     let change = change_of(alloc, step)?;
     Ok(Command { key, change })
@@ -59,7 +59,7 @@ fn answer_text(answer: Result<Reply, Refusal>) -> Result<&'static str, Refusal> 
     Ok(reply_text(&reply))
 }
 
-fn changed(part: &mut Part, alloc: Global, command: &Command) -> Result<Reply, Refusal> {
+pub(crate) fn changed(part: &mut Part, alloc: Global, command: &Command) -> Result<Reply, Refusal> {
     let prepared = part.prepare(alloc, command)?;
     Ok(part.act(&command.key, prepared))
 }
