@@ -64,10 +64,6 @@ written_in {D} h old w files k is = (
     record { generation = x.generation; stands = subst (λ (g : ℕ). checkpoint.Stands w k.held.other k.held.sections (files (checkpoint_file g))) (sym x.generation) x.stands }
     )
 
-pub may_step : {D : Type 0} (states : D → List Files) (honest : D → Type 0) (n : ℕ) (done : List Command) (old : Keeper D) (p : Record) (w : CheckpointState) → Fits states honest n done old p → old.is_broken ≡ false → old.checkpoint ≡ Some w
-    → MayAdvance states honest w old.disk
-may_step {D} states honest n done old p w f works is = λ _ h. (let k = f.stores.works works h in (k.held.other, k.held.sections, (written_in (history_of p) old w (now (states old.disk)) k is).stands))
-
 -- ---- a step
 
 -- The step that was made of the checkpoint w.

@@ -7,7 +7,7 @@ use Rattle.ticket_order.specs.declared.record.StepMade.TheVariants.{FoundAlive, 
 use Rattle.ticket_order.specs.Records.{reach}
 use Rattle.ticket_order.specs.StepRules.{Lives, Rises, Sees}
 use Rattle.ticket_order.specs.Calls.{Misses, MissesAlive, Reaches, SeesAgain}
-use Rattle.flusher.proofs.OwnCalls.{lives, none_goes_on, sees, then}
+use Rattle.flusher.proofs.OwnCalls.{lives, sees, then}
 use Rattle.durable_map.specs.Durable.{Awaits, EndsDurable, EndsFailed, GrewBy, IsSeeOrAlive, MakesNoCall, seen_at, seen_by}
 
 pub grew_on : (v u w : Record) (a b : List StepMade) → GrewBy v a u → GrewBy u b w → GrewBy v (a ++ b) w
@@ -18,9 +18,6 @@ grew_on v u w a b e f = f ∙ (ap (λ l. l ++ b) e ∙ append_assoc v.steps a b)
 seen_append : (q : ℕ) (a b : List StepMade) → seen_by q (a ++ b) ≡ seen_by (seen_by q a) b
 seen_append q [] b = refl
 seen_append q (step ∷ a) b = seen_append (seen_at q step) a b
-
-awaits_none : (v : Record) → Awaits v [] v
-awaits_none v = record { steps = sym (append-nil v.steps); only = All-nil IsSeeOrAlive; seen = refl }
 
 pub awaits_on : (v u w : Record) (a b : List StepMade) → Awaits v a u → Awaits u b w → Awaits v (a ++ b) w
 awaits_on v u w a b x y = record {
@@ -39,9 +36,6 @@ awaits_alive : (v w : Record) (b : Bool) → Lives v b w → Awaits v (FoundAliv
 awaits_alive v w b s = record { steps = ap (λ (r : Record). r.steps) s.is; only = All-cons IsSeeOrAlive (FoundAlive b) [] tt (All-nil IsSeeOrAlive); seen = ap reach s.is }
 
 -- ---- steps that make no call
-
-pub makes_none : (v : Record) → MakesNoCall v v
-makes_none v = record { goes_on = none_goes_on v; calls = refl; holding = refl; made = []; awaits = awaits_none v }
 
 pub goes_on : (v u w : Record) → MakesNoCall v u → MakesNoCall u w → MakesNoCall v w
 goes_on v u w a b = record {

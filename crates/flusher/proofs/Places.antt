@@ -1,14 +1,14 @@
 -- Entries that are put into their places.
-use Rattle.std.proofs.Common.{◌≡◌, inl, inr, ℕ, ◌+◌, ◌-◌, ◌<◌, ◌≤◌, List, [], ◌∷◌, ◌++◌, length, get_or, set, take, replicate, Some, None, refl, sym, ◌∙◌, ap, subst, arith}
+use Rattle.std.proofs.Common.{◌≡◌, inl, inr, ℕ, ◌+◌, ◌-◌, ◌<◌, ◌≤◌, List, [], ◌∷◌, ◌++◌, length, get_or, set, take, Some, None, refl, sym, ◌∙◌, ap, subst, arith}
 use Rattle.std.proofs.lemmas.Bool.{cases_eq}
 use Rattle.std.specs.List.{All, Contains}
 use Rattle.std.proofs.lemmas.List.{length-set, get_or-set_same, get_or-set_other}
-use Rattle.std.proofs.lemmas.List.Elements.{All-more, All-weaker, All-contains, Contains-append_left, Contains-append_right, Contains-append_cases}
+use Rattle.std.proofs.lemmas.List.Elements.{All-more, All-weaker, Contains-append_left, Contains-append_right, Contains-append_cases}
 use Rattle.map_types.specs.declared.commands.Command.{Command}
 use Rattle.ticket_order.specs.declared.stripe.Entry.{Entry}
 use Rattle.ticket_order.specs.Records.{entry}
-use Rattle.store_layout.specs.Hands.{Hand, Holds}
-use Rattle.flusher.specs.HandSteps.{HasPlace, MakesRoom, Gains}
+use Rattle.store_layout.specs.Hands.{Hand}
+use Rattle.flusher.specs.HandSteps.{HasPlace, Gains}
 
 pub places_more : (next len more : ℕ) (entries : List Entry) (i : ℕ) (e : Entry) → len ≤ more → i < length entries → e ≡ get_or entries i e → (next ≤ e.ticket → e.ticket < next + more)
     → All (λ e. next ≤ e.ticket → e.ticket < next + len) (take i entries) → All (λ e. next ≤ e.ticket → e.ticket < next + more) (take (i + 1) entries)
@@ -16,34 +16,13 @@ places_more next len more entries i e h within is here before =
     let P : Entry → Type 0 = λ e. next ≤ e.ticket → e.ticket < next + more in
     All-more P entries i e within (All-weaker (λ e. next ≤ e.ticket → e.ticket < next + len) P (λ x f g. let k : x.ticket < next + len = f g in omega arith) (take i entries) before) (subst P is here)
 
-pub room_made : (old new : Hand) (entries : List Entry) (len more : ℕ) → new ≡ record old { slots = old.slots ++ replicate more None } → len ≤ length new.slots
-    → All (λ e. old.next ≤ e.ticket → e.ticket < old.next + len) entries → MakesRoom old entries new
-room_made old new entries len more is long all = record {
-  next = ap (λ (h : Hand). h.next) is;
-  more = more;
-  slots = ap (λ (h : Hand). h.slots) is;
-  places = λ e has above. (let n = ap (λ (h : Hand). h.next) is in omega arith, let low : e.ticket < old.next + len = All-contains (λ (e : Entry). old.next ≤ e.ticket → e.ticket < old.next + len) entries e all has above in let n = ap (λ (h : Hand). h.next) is in omega arith);
-}
-
 pub gains_none : (h : Hand) → Gains h [] h
 gains_none h = record { next = refl; long = refl; all = λ e has. absurd (omega (arith, has.1)); kept = λ t c k. (c, k); only = λ t c k. inl k }
-
-holds_again : (old new : Hand) (t : ℕ) (c : Command) → new.next ≡ old.next → get_or new.slots (t - old.next) None ≡ Some c → old.next ≤ t → Holds new t c
-holds_again old new t c same is above = record { reached = omega arith; there = subst (λ n. get_or new.slots (t - n) None ≡ Some c) (sym same) is }
 
 only_one : (x e : Entry) → Contains (x ∷ []) e → x ≡ e
 only_one x e has =
     let first : has.0 ≡ 0 = omega (arith, has.1) in
     subst (λ k. get_or (x ∷ []) k e ≡ e) first has.2
-
-pub gains_out : (h : Hand) (e : Entry) → (HasPlace h e → ⊥) → Gains h (e ∷ []) h
-gains_out h e out = record {
-  next = refl;
-  long = refl;
-  all = λ x has place. absurd (out (subst (HasPlace h) (sym (only_one e x has)) place));
-  kept = λ t c k. (c, k);
-  only = λ t c k. inl k;
-}
 
 abbrev pub in_place : Hand → Entry → Hand
 in_place h e = record h { slots = set h.slots (e.ticket - h.next) (Some e.command) }

@@ -46,9 +46,6 @@ pub record IsFound (layout : Layout) (hand : Hand) (room : ℕ) (commands : List
   pub slots : hand.slots ≡ map Some commands ++ rest
   pub filled : length (records_bytes layout commands) + room ≡ 1048559
 
-pub found_none : (layout : Layout) (hand : Hand) → IsFound layout hand 1048559 []
-found_none layout hand = record { rest = hand.slots; slots = refl; filled = refl }
-
 fits : (layout : Layout) (most : ℕ) (hand : Hand) (room : ℕ) (commands : List Command) → IsFound layout hand room commands → hand.next < 2 ^ 64 → length commands ≤ most_from hand.next most → FitsBatch layout most hand.next commands
 fits layout most hand room commands f number few = record {
   few = omega arith;

@@ -10,12 +10,7 @@ use Rattle.ticket_order.specs.Legality.{entries_from}
 use Rattle.gate_log.specs.States.{AreFrom, commands_of}
 use Rattle.store_layout.specs.Hands.{Hand, Holds, IsRun}
 use Rattle.flusher.specs.HandSteps.{Gains, SameEntries}
-use Rattle.ticket_order.specs.declared.record.Record.{Record}
-use Rattle.flusher.specs.declared.sweeper.Walking.TheVariants.{Rests}
-use Rattle.flusher.specs.declared.sweeper.Sweep.{Sweep}
-use Rattle.flusher.specs.declared.sweeper.Sweeper.{Sweeper}
 use Rattle.flusher.specs.Gathering.{Accounts}
-use Rattle.flusher.specs.Sweeping as Sweeping
 use Rattle.ticket_order.proofs.Entries.{found, there_is, same_command, grown, shrunk}
 use Rattle.flusher.proofs.Runs.{none_is_some}
 
@@ -127,15 +122,3 @@ pub taken_in_hand : (hand : Hand) (gone commands : List Command) (first : ℕ) (
 taken_in_hand hand gone commands first taken seen a run e has =
     let x = found hand.next commands e has in
     a.held e.ticket e.command (record { reached = x.low; there = in_slots hand commands run (e.ticket - hand.next) e.command (omega (arith, x.low, x.high)) ∙ ap Some x.there })
-
--- a sweeper at rest, once a run is staged
-pub stands_staged : (n : ℕ) (old new : Sweeper) (gone commands : List Command) (p : Record) → Sweeping.Stands n old gone p → old.walking ≡ Rests → p.opening.first + length gone ≡ old.in_hand.next → IsRun old.in_hand commands
-    → new.sweep ≡ old.sweep → new.walking ≡ old.walking → new.in_hand ≡ record old.in_hand { slots = replicate (length commands) None ++ drop (length commands) old.in_hand.slots } → Sweeping.Stands n new (gone ++ commands) p
-stands_staged n old new gone commands p k rests at run s w h =
-    let after : Hand = record old.in_hand { slots = replicate (length commands) None ++ drop (length commands) old.in_hand.slots } in
-    subst (λ x. Sweeping.StandsBy n x new.walking new.in_hand (gone ++ commands) p) (sym s) (subst (λ x. Sweeping.StandsBy n old.sweep x new.in_hand (gone ++ commands) p) (sym (w ∙ rests))
-    (subst (λ x. Sweeping.StandsBy n old.sweep Rests x (gone ++ commands) p) (sym h) (at_rest old.sweep (subst (λ x. Sweeping.StandsBy n old.sweep x old.in_hand gone p) rests k))))
-  where
-    at_rest : (o : Option Sweep) → Sweeping.StandsBy n o Rests old.in_hand gone p → Sweeping.StandsBy n o Rests (record old.in_hand { slots = replicate (length commands) None ++ drop (length commands) old.in_hand.slots }) (gone ++ commands) p
-    at_rest None j = record { free = j.free; gathers = record { keeper = j.gathers.keeper; accounts = accounts_staged old.in_hand gone commands p.opening.first p.taken p.seen j.gathers.accounts at run; within = j.gathers.within } }
-    at_rest (Some sweep) j = record { free = j.free; within = j.within; below = j.below; gathers = record { keeper = j.gathers.keeper; accounts = accounts_staged old.in_hand gone commands p.opening.first p.taken p.seen j.gathers.accounts at run; within = j.gathers.within } }

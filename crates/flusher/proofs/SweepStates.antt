@@ -10,7 +10,6 @@ use Rattle.ticket_order.specs.Records.{outbox_held}
 use Rattle.ticket_order.specs.Calls.{SweepsStripe, RefusesSweep}
 use Rattle.ticket_order.specs.Walks.{Task, ToSweep, Fits, entries_of_walk}
 use Rattle.flusher.specs.declared.sweeper.Sweep.{Sweep}
-use Rattle.flusher.specs.declared.sweeper.Walking.{Walking}
 use Rattle.flusher.specs.declared.sweeper.Walking.TheVariants.{Rests, SweepTakes, SweepGives}
 use Rattle.flusher.specs.declared.sweeper.Swept.{Swept}
 use Rattle.flusher.specs.declared.sweeper.Swept.TheVariants.{More, Done}
@@ -131,16 +130,3 @@ not_ready hand walk back fits refuses same = record {
   where
     never : (e : Refusal) → None ≡ Some e → ⊥
     never e h = cc
-
--- ---- where a sweep stood before its step
-
-pub had_none : (n : ℕ) (s : Sweeper) (gone : List Command) (p : Record) → Stands n s gone p → s.sweep ≡ None → HasNone s.in_hand gone p
-had_none n s gone p k is = by_walking s.walking (subst (λ o. StandsBy n o s.walking s.in_hand gone p) is k)
-  where
-    by_walking : (v : Walking) → StandsBy n None v s.in_hand gone p → HasNone s.in_hand gone p
-    by_walking Rests h = h
-    by_walking SweepTakes h = absurd h
-    by_walking (SweepGives walk) h = absurd h
-
-pub stood_at : (n : ℕ) (s : Sweeper) (gone : List Command) (p : Record) (sweep : Sweep) (walking : Walking) → Stands n s gone p → s.sweep ≡ Some sweep → s.walking ≡ walking → StandsBy n (Some sweep) walking s.in_hand gone p
-stood_at n s gone p sweep walking k a b = subst (λ v. StandsBy n (Some sweep) v s.in_hand gone p) b (subst (λ o. StandsBy n o s.walking s.in_hand gone p) a k)

@@ -26,7 +26,7 @@ use Rattle.flusher.specs.declared.sweeper.Sweep.{Sweep}
 use Rattle.flusher.specs.declared.sweeper.Walking.{Walking}
 use Rattle.flusher.specs.declared.sweeper.Walking.TheVariants.{Rests, SweepTakes, SweepGives}
 use Rattle.flusher.specs.declared.sweeper.Swept.{Swept}
-use Rattle.flusher.specs.declared.sweeper.Swept.TheVariants.{More, Done}
+use Rattle.flusher.specs.declared.sweeper.Swept.TheVariants.{More}
 use Rattle.flusher.specs.declared.sweeper.Sweeper.{Sweeper}
 use Rattle.store_layout.specs.Hands.{Hand}
 use Rattle.flusher.specs.HandSteps.{SameEntries}
@@ -164,15 +164,6 @@ fits_tried {D} {X} states honest n i done keeper hand p w (Err e) stay front f r
     (refuses_quiet p i e w err) (record { more = l.more; is = l.seen }) kept.next
 
 -- ---- how a sweep ends
-
-pub rests_done : (n : ℕ) (o : Option Sweep) (v : Walking) (old : Hand) (new : Sweeper) (p w : Record) (count : ℕ) → StepsOn n o v old new p w (Ok (Done count)) → new.walking ≡ Rests
-rests_done n None v old new p w count k = absurd (never count k.answer)
-  where
-    never : (m : ℕ) → (let x : Result Swept Refusal = Ok (Done m) in let y : Result Swept Refusal = Ok More in x ≡ y) → ⊥
-    never m e = cc
-rests_done n (Some sweep) Rests old new p w count k = absurd k
-rests_done n (Some sweep) SweepTakes old new p w count k = absurd k
-rests_done n (Some sweep) (SweepGives walk) old new p w count k = k.walking
 
 -- a step that was refused
 pub record IsPutBack (new : Sweeper) (e : Refusal) : Type 0 where
