@@ -1,14 +1,16 @@
 """What the measures of servers share: the load that `cc` builds of bench/load.c, and the servers under it.
 
-bench/harness is a link to the package of tests/ that starts them.
+It alone says where the package `harness` of tests/ is; the measures take its modules from here.
 """
 import contextlib
 import os
 import subprocess
-
-from harness import servers
+import sys
 
 HERE = os.path.dirname(os.path.abspath(__file__))
+sys.path.append(os.path.join(os.path.dirname(HERE), "tests"))
+from harness import counters, places, servers  # noqa: E402, F401
+
 # How many threads of the server serve connections; as many as `dchm serve` has if it is told nothing.
 WORKERS = 4
 FILLING = {"connections": 16, "flight": 64, "kind": "fill"}

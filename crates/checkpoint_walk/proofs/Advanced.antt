@@ -19,7 +19,7 @@ use Rattle.store_layout.specs.OpeningLaws.{OneCheckpoint}
 use Rattle.gate_log.specs.States.{commands_of}
 use Rattle.store_layout.specs.declared.checkpoint_phase.CheckpointPhase.{CheckpointPhase}
 use Rattle.store_layout.specs.declared.checkpoint_phase.CheckpointPhase.TheVariants as phase
-use Rattle.checkpoint_file.specs.CheckpointSteps.{Advances, MayAdvance}
+use Rattle.checkpoint_file.specs.CheckpointSteps.{Advances}
 use Rattle.checkpoint_file.specs.States.{CheckpointState, state_after}
 use Rattle.checkpoint_file.specs.CheckpointStates as checkpoint
 use Rattle.checkpoint_file.specs.CheckpointStates.{checkpoint_of}
