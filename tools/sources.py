@@ -5,7 +5,7 @@ import os
 import re
 from typing import NamedTuple, Optional
 
-from specs import TOP, comment_above, indent_of, lines_of
+from specs import TOP, comment_above, indent_of, kit, lines_of
 
 BLOCK = re.compile(r"^(?:(pub) |pub\(\w+\) )?(?:unsafe )?(impl|trait)\b")
 CALL = re.compile(r"^ *(?:(pub) )?(?:unsafe )?fn (\w+)")
@@ -96,6 +96,24 @@ def blocks_and_calls():
     hidden = {block.trait for block in blocks if not block.is_public} - {block.trait for block in blocks if block.is_trait()}
     calls = [call for _, found in read for call in found if not (call.block and call.block.trait in hidden)]
     return blocks, calls
+
+
+def trait_call(call):
+    """Returns the call of the trait that a method implements, of this repository or of Rattle's; None if there is none."""
+    if not call.implements():
+        return None
+    calls = (other for others in (blocks_and_calls()[1], calls_of_rattle(call.implements())) for other in others)
+    return next((other for other in calls if other.name == call.name and other.block
+                 and not other.block.type and other.block.trait == call.implements()), None)
+
+
+@functools.lru_cache(maxsize=None)
+def calls_of_rattle(trait):
+    """Returns the calls in the files of Rattle's that have a trait of this name."""
+    folders = [f"{kit()}/{crate}/src" for crate in ("core", "alloc", "std")] if kit() else []
+    paths = [path for folder in folders for path in sorted(glob.glob(f"{folder}/**/*.rt", recursive=True))]
+    head = re.compile(rf"^pub trait {trait}\b")
+    return [call for path in paths if any(map(head.match, lines_of(path))) for call in read_source(path)[1]]
 
 
 def comment_of(lines, at):

@@ -1,8 +1,9 @@
 """Takes clauses and definitions apart into the statements that they make, for the tools beside it."""
+import functools
 import re
 from typing import NamedTuple
 
-from cited import code_of, place, uses_of
+from cited import code_of, place, uses_of, words_in
 from sources import CLAUSE, signature_at
 from specs import indent_of, lines_of
 
@@ -44,6 +45,7 @@ def comment_of_clause(lines, at):
     return lines[first:at]
 
 
+@functools.lru_cache(maxsize=None)
 def parts_of(word):
     """The head of a definition in specs, its comment, and its statements."""
     text = list(word.text)
@@ -72,6 +74,16 @@ def parts_of(word):
         Statement(word.name, word.path, word.line + at - head, said, tuple(own), word.uses) for at, own, said in found]
 
 
+@functools.lru_cache(maxsize=None)
+def handed_to(word):
+    """What a definition says that it is handed, with what a word for a result stands for."""
+    line = lines_of(word.path)[word.line - 1]
+    head = line + parts_of(word)[0].partition(line)[2]
+    cited = (each for each in words_in(head, word.uses, word.path) if each)
+    texts = (one_line(statement.code()) for each in cited for statement in parts_of(each)[2])
+    return " ".join([head, *(text for text in texts if " = Result " in text)])
+
+
 def begins(line, name, depth):
     return indent_of(line) == depth and line.strip().startswith(name + " ")
 
@@ -93,16 +105,26 @@ def closes_at(text):
     return -1
 
 
-def alternatives(text):
-    """The parts of a text between its outermost ⊎."""
+def parts_between(text, sign):
+    """The parts of a text between its outermost signs."""
     text, depth, parts = stripped(text), 0, [""]
     for letter in text:
         depth += (letter in "({") - (letter in ")}")
-        if letter == "⊎" and depth == 0:
+        if letter == sign and depth == 0:
             parts.append("")
         else:
             parts[-1] += letter
-    return [text] if len(parts) == 1 else [each for part in parts for each in alternatives(part)]
+    return [text] if len(parts) == 1 else [each for part in parts for each in parts_between(part, sign)]
+
+
+def alternatives(text):
+    """The parts of a text of which one holds."""
+    return parts_between(text, "⊎")
+
+
+def factors(text):
+    """The parts of a text that all hold."""
+    return parts_between(text, "×")
 
 
 def split_at(text):
@@ -113,6 +135,15 @@ def split_at(text):
         if depth == 0 and text[at:at + 3] in (" = ", " : "):
             return text[:at], text[at + 3:]
     return "", text
+
+
+def meant(equation):
+    """What an equation says, without its left side if that takes nothing apart that the right side speaks of."""
+    before, behind = split_at(equation)
+    if " = " not in equation or behind == "⊥" or re.search(r"\(Ok [(A-Z]", before):
+        return equation
+    bound = {name for names in re.findall(r"\([\w.]+ ([^()]+)\)", re.sub(r"\(Ok \w+\)", "", before)) for name in names.split()}
+    return equation if bound & set(re.findall(r"\w+", behind)) else behind
 
 
 def one_line(text):
