@@ -5,9 +5,10 @@ from cited import is_of_kit, words_in
 from refusals import chosen_by, is_chosen, is_record
 from statements import alternatives, closes_at, factors, handed_to, one_line, parts_between, parts_of, split_at, stripped
 
-BY_RESULT = re.compile(r"\b(?:IfOk|OnOk|IfErr|OnErr|MatchResult|IfSome|IfNone|ForOk|ForErr)\b|\bresult\b")
-IF_OK = re.compile(r"\b(?:IfOk|OnOk|MatchResult|ForOk)\b|\(?Ok\b")
-IF_ERROR = re.compile(r"\b(?:IfErr|OnErr|MatchResult|ForErr)\b|\bErr\b")
+OF_ITS_KIND = re.compile(r"\b(?:IfOk|OnOk|IfErr|OnErr|MatchResult|IfSome|IfNone|ForOk|ForErr|Ok|Err)\b")
+BY_RESULT = re.compile(rf"{OF_ITS_KIND.pattern}|\bresult\b")
+IF_OK = re.compile(r"\b(?:IfOk|OnOk|MatchResult|ForOk|Ok)\b")
+IF_ERROR = re.compile(r"\b(?:IfErr|OnErr|MatchResult|ForErr|Err)\b")
 BY_PATTERN = re.compile(r"\((?:Ok|Err)\b")
 NAMED = re.compile(r"ensures (\w+) \{")
 SIGN = re.compile(r"[≡≢≤<↔⊥]")
@@ -77,7 +78,7 @@ class Outcomes:
         # The clauses that say it without a word that is handed the result; and those whose word isn't of this repository.
         self.clauses = [clause for clause in plain if not BY_RESULT.search(clause.code())]
         self.clauses_by_result = [clause for clause in plain if re.search(r"\bresult\b", clause.code())
-                                  and not IF_OK.search(clause.code()) and not IF_ERROR.search(clause.code())]
+                                  and not OF_ITS_KIND.search(clause.code())]
         self.clauses_if_ok = [clause for clause in plain if IF_OK.search(clause.code()) or clause in self.clauses_by_result]
         # The statements of the words that are handed the result. Each of `cases` is a record that holds in some case.
         self.if_ok, self.if_error, self.fields, self.cases = [], [], [], []

@@ -4,7 +4,8 @@ import os
 import re
 from typing import NamedTuple
 
-from sources import crate_of
+from exports import is_public
+from sources import blocks_and_calls, crate_of
 from specs import TOP, crates, lines_of
 
 PAGE = os.path.join("docs", "PROVED.md")
@@ -21,9 +22,9 @@ class Piece(NamedTuple):
     text: str
     # What of it says of what it is.
     subject: str
-    # The heading of the part that it is of, the crates of whose table it may speak, and that of whose row it is.
+    # The heading of the part that it is of, the crates of that part's table, and the one of whose row it is.
     heading: str
-    crates: frozenset
+    crates: tuple
     row: str
 
     def names(self):
@@ -43,11 +44,12 @@ def sections():
 def pieces():
     known, found = set(crates()), []
     for start, lines in sections():
-        of_section = frozenset(cell_of(line) for line in lines if cell_of(line) in known)
+        of_section = tuple(dict.fromkeys(cell_of(line) for line in lines if cell_of(line) in known))
         heading = ""
         for at, line in enumerate(lines):
-            if line.startswith("#"):
-                heading = line.lstrip("# ") if line.startswith("### ") else ""
+            if line.startswith("### "):
+                heading = line.lstrip("# ")
+                found.append(Piece(start + at + 1, heading, heading, "", of_section, ""))
             elif line.startswith("|"):
                 cells = [cell.strip() for cell in line.strip("|").split("|")]
                 row = cells[0] if cells[0] in known else ""
@@ -67,18 +69,32 @@ def rank(piece, call):
     """How near a piece is to a call: the least is the nearest; None if it doesn't tell of it."""
     crate, owners = crate_of(call.path), call.owners()
     names = [name.split("::") for name in piece.names()]
+    if call.block and f"(not `{call.block.type}`" in piece.heading + piece.text:
+        return None
     is_first = bool(names) and names[0][-1] == call.name
-    is_of_crate = crate in piece.crates or bool(re.search(rf"\b{crate}\b", piece.text))
+    is_named = bool(re.search(rf"\b{crate}\b", piece.text))
     if any(name[-1] == call.name and len(name) > 1 and set(name[:-1]) <= owners for name in names):
-        return 0 if piece.crates else 5, not is_first, False
-    if [call.name] in names and is_of_crate:
-        is_told_whose = bool(re.search(rf"\b{crate}\b", piece.text)) or any(name[-1] in owners for name in names)
-        return 1 if piece.crates else 5, not is_first, not is_told_whose
-    if call.name.startswith("try_") and ["try_"] in names and is_of_crate:
-        return 2, False, False
+        return 0 if piece.crates else 5, not is_first
+    if [call.name] in names and (is_named or crate in piece.crates and is_meant(piece, call, names)):
+        return 1 if piece.crates else 5, not is_first
+    if call.name.startswith("try_") and ["try_"] in names and (is_named or crate in piece.crates):
+        return 2, False
     if crate in piece.crates and call.block and begins_with(piece, {call.block.type, call.block.trait}):
-        return 3, False, False
-    return (4, False, False) if piece.row == crate else None
+        return 3, False
+    return (4, False) if piece.row == crate else None
+
+
+def is_meant(piece, call, names):
+    """Whether a bare name is that of this call: its type is named too, or no crate before its own has a call of the name."""
+    is_told_whose = call.block and any(name[-1] in (call.block.type, call.block.trait) for name in names)
+    having = [crate for crate in piece.crates if crate in crates_having(call.name)]
+    return is_told_whose or having[0] == crate_of(call.path)
+
+
+@functools.lru_cache(maxsize=None)
+def crates_having(name):
+    """The crates that have a public call of the name."""
+    return {crate_of(call.path) for call in blocks_and_calls()[1] if call.name == name and is_public(call)}
 
 
 def begins_with(piece, names):
@@ -95,7 +111,7 @@ def shortened(piece):
 
 def places_of(call):
     """At most so many places of the page that tell of a call, the nearest first."""
-    ranked = [(rank(piece, call), piece) for piece in pieces()]
+    ranked = [(rank(piece, call), piece) for piece in pieces()] if is_public(call) else []
     nearest = sorted((each for each in ranked if each[0] is not None), key=lambda each: each[0])
     found = {}
     for _, piece in nearest:
