@@ -1,4 +1,7 @@
 //! What a journal does: the steps of its files alone, and those over the stripes.
+ghost use Rattle.std.specs.Prelude.{◌≡◌};
+ghost use Rattle.ticket_order.specs.StepRules.{IsOfSamePass};
+
 use crate::steps::{Keeping, Walk};
 use disk_model::Disk;
 use journal::Journal;
@@ -9,8 +12,10 @@ use ticket_order::Steps;
 /// The number that a step gives, or 0 if it gives none; or why it was refused.
 pub(crate) type Answer = Result<u64, Refusal>;
 
-/// Makes a step of the journal's files.
-pub(crate) fn keep<D: Disk, S: Steps>(journal: &mut Journal<D, S>, keeping: Keeping) -> Answer {
+/// Makes a step of the journal's files, and none of its pass.
+pub(crate) fn keep<D: Disk, S: Steps>(journal: &mut Journal<D, S>, keeping: Keeping) -> Answer
+    ensures { journal.new.steps ≡ journal.old.steps }
+{
     match keeping {
         Keeping::Stage(most) => Ok(u64::from(journal.stage_batch(most)?)),
         Keeping::SetAhead(count) => {
@@ -46,7 +51,9 @@ pub(crate) fn walk<D: Disk, S: Steps, R: Wait>(
     rt: &R,
     journal: &mut Journal<D, S>,
     walk: Walk,
-) -> Answer {
+) -> Answer
+    ensures { IsOfSamePass S.place S.stripe_count journal.old.steps journal.new.steps }
+{
     match walk {
         Walk::Sweep => journal.sweep(rt),
         Walk::TrySweep(stripe) => {

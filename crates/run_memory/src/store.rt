@@ -23,7 +23,7 @@ use stripe_locks::{Held, Pass, Released, Stripes};
 /// How many replies are held without a request for memory.
 const ROOM: usize = 64;
 
-/// A journal over shared stripes; and a worker of these stripes, with the replies that it holds.
+/// A journal over shared stripes; and a worker of these same stripes, with the replies that it holds.
 /// Between two steps the worker holds no stripe.
 #[derive(Drop)]
 pub(crate) struct Store {
@@ -45,7 +45,8 @@ impl Model for Store {
     ghost view = { λ store. stripe_count (arc_value store.stripes) };
 
     ghost invariant = { λ store.
-        IsStore (arc_value store.stripes) store.worker store.held.items };
+        IsStore (arc_value store.journal.steps.stripes) (arc_value store.stripes) store.worker
+        store.held.items };
 }
 
 /// Makes a call of a pass. A change waits for a stripe that is held only if it is to wait.

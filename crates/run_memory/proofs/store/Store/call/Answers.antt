@@ -13,4 +13,4 @@ invariant_of-self-2 g c =
     let same : c.deref.result.now ≡ stripes = search rules in
     let own = subst (λ (s : Stripes). IsPassOf s c.call_by.new.pass) same c.call_by.ensures.own in
     let held = subst (λ (s : Stripes). IsHeldOf s c.in_ok-held.held) same c.in_ok-held.ensures.held in
-    (own, c.call_by.ensures.idle, All-same (IsHeldOf stripes) _ _ c.in_ok-push.ensures.items (All-push (IsHeldOf stripes) c.self.inside.held.items c.in_ok-held.held v.2 held))
+    (v.0, own, c.call_by.ensures.idle, All-same (IsHeldOf stripes) _ _ c.in_ok-push.ensures.items (All-push (IsHeldOf stripes) c.self.inside.held.items c.in_ok-held.held v.3 held))

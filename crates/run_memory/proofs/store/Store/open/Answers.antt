@@ -3,7 +3,7 @@ use Rattle.std.proofs.lemmas.List.Elements.{All-nil, All-same}
 use Rattle.std.specs.Arc.{arc_value}
 use Rattle.ticket_order.specs.declared.record.Record.{Record}
 use Rattle.stripe_locks.specs.declared.stripes.Stripes.{Stripes}
-use Rattle.stripe_locks.specs.Holding.{IsHeldOf}
+use Rattle.stripe_locks.specs.Holding.{IsHeldOf, name_of_words}
 use Rattle.stripe_locks.specs.Passes.{begun_with, stripe_count, IsPassOf}
 use Rattle.ticket_order.specs.declared.record.Opening.{Opening}
 use Rattle.disk_model.specs.declared.memory.MemDisk.{MemDisk}
@@ -14,7 +14,9 @@ use Rattle.run_memory.proofs.store.Store.open.Goals as goal
 pub invariant_of-result : goal.invariant_of-result
 invariant_of-result c =
     let stripes = arc_value c.in_ok-stripes.stripes in
+    let shared : arc_value c.in_ok-shared.shared ≡ stripes = search rules in
     let same : c.deref.result.now ≡ stripes = search rules in (
+      ap name_of_words (ap arc_value c.in-Ok-over.ensures.owned.1 ∙ shared),
       subst (λ (s : Stripes). IsPassOf s c.in_ok-worker.worker) same c.in_ok-worker.ensures.own,
       ap (λ (r : Record). r.holding) c.in_ok-worker.ensures.joins.is,
       All-same (IsHeldOf stripes) _ _ c.in_ok-held.ensures.items (All-nil (IsHeldOf stripes)),
