@@ -3,8 +3,8 @@ import re
 import textwrap
 
 from cited import is_of_kit, place, words_in
-from outcomes import (Outcomes, cited_by, clauses_on_errors, ensured, is_claim, is_handed_result, name_of, names_in,
-                      says_something, text_of)
+from outcomes import (Outcomes, cited_by, clauses_on_errors, ensured, inside, is_claim, is_handed_result, name_of,
+                      names_in, says_something, text_of)
 from refusals import BARE, NEVER, Told, got_by, is_record, named_below, named_in
 from specs import indent_of, lines_of
 from statements import meant, parts_of
@@ -17,7 +17,9 @@ MOST_UNNAMED = 8
 # The most lines of definitions, and of those on errors, that stand below a contract without being asked for.
 MOST_SHORT_LINES = 45
 WIDTH = 120
-MAY_BE_RULED_OUT = "another clause may rule out what is listed"
+MAY_BE_RULED_OUT = "with comments; another clause may rule one out"
+# A clause that names the only error, and says no more of it.
+ALONE = re.compile(r"(?:IfErr|OnErr) result \(λ (\w+)\. \1 ≡ [\w.]+\)")
 
 
 def wrapped(text, place_of_it="", indent="    "):
@@ -112,12 +114,14 @@ class Promise:
         return [*wrapped(f"Below, {told}.", "", ""), ""] if told else []
 
     def if_ok(self):
+        if self.kind is None:
+            return []
         said = self.outcomes.if_ok
         lines = [line for statement in said for line in wrapped(meant(text_of(statement)), statement.place())]
         words = [word for statement in [*said, *self.outcomes.clauses_if_ok] for word in cited_by(statement)]
         lines += self.definitions.few_lines(words)
         clauses = [f"    {clauses_named(self.outcomes.clauses_if_ok)}, above"] if self.outcomes.clauses_if_ok else []
-        return ["If it is Ok:", "", *clauses, *lines, ""] if (clauses or lines) and self.kind else []
+        return ["If it is Ok:", "", *clauses, *lines, ""] if clauses or lines else []
 
     def always(self):
         clauses = self.outcomes.clauses
@@ -238,7 +242,8 @@ class ErrorLines:
         clause = said.statement
         self.below += cited_by(clause)
         if self.is_short:
-            return [f"    the clause {name_of(clause)}, above"]
+            bare = ", which tells no cause" if ALONE.fullmatch(inside(clause)) else ""
+            return [f"    the clause {name_of(clause)}, above{bare}"]
         if clause.place() in self.shown:
             return wrapped("and the clause above", clause.place())
         self.shown.add(clause.place())
