@@ -14,6 +14,8 @@ LINK = re.compile(r"\[([^]]*)\]\([^)]*\)")
 END = re.compile(r"(?<=[.?!])\s+")
 MOST_PLACES = 3
 MOST_WORDS = 30
+# How near a row is that tells of the crate of a call, and not of the call.
+OF_ITS_CRATE = 4
 
 
 class Piece(NamedTuple):
@@ -81,7 +83,7 @@ def rank(piece, call):
         return 2, False
     if crate in piece.crates and call.block and begins_with(piece, {call.block.type, call.block.trait}):
         return 3, False
-    return (4, False) if piece.row == crate else None
+    return (OF_ITS_CRATE, False) if piece.row == crate else None
 
 
 def is_meant(piece, call, names):
@@ -114,6 +116,7 @@ def places_of(call):
     ranked = [(rank(piece, call), piece) for piece in pieces()] if is_public(call) else []
     nearest = sorted((each for each in ranked if each[0] is not None), key=lambda each: each[0])
     found = {}
-    for _, piece in nearest:
-        found.setdefault(piece.line, f"{PAGE}:{piece.line}: {shortened(piece)}")
+    for (nearness, _), piece in nearest:
+        of_crate = "of its crate, " if nearness == OF_ITS_CRATE else ""
+        found.setdefault(piece.line, f"{PAGE}:{piece.line}: {of_crate}{shortened(piece)}")
     return list(found.values())[:MOST_PLACES]

@@ -3,8 +3,8 @@ import re
 import textwrap
 
 from cited import is_of_kit, place, words_in
-from outcomes import (Outcomes, cited_by, clauses_on_errors, ensured, inside, is_claim, is_handed_result, name_of,
-                      names_in, says_something, text_of)
+from outcomes import (IF_ERROR, IF_OK, Outcomes, cited_by, clauses_on_errors, ensured, inside, is_claim,
+                      is_handed_result, name_of, names_in, says_something, text_of)
 from refusals import BARE, NEVER, Told, got_by, is_record, named_below, named_in
 from specs import indent_of, lines_of
 from statements import meant, parts_of
@@ -19,7 +19,7 @@ MOST_SHORT_LINES = 45
 WIDTH = 120
 MAY_BE_RULED_OUT = "with comments; another clause may rule one out"
 # A clause that names the only error, and says no more of it.
-ALONE = re.compile(r"(?:IfErr|OnErr) result \(λ (\w+)\. \1 ≡ [\w.]+\)")
+ALONE = re.compile(r"(?:IfErr|OnErr) result \(λ (\w+)\. \(?\1 ≡ [\w.]+\)?(?: ⊎ \(*\1 ≡ [\w.]+\)*)*\)")
 
 
 def wrapped(text, place_of_it="", indent="    "):
@@ -51,6 +51,18 @@ def body_of(word, is_short=False):
         own = [line for line in own if not re.match(r" *(?:abbrev |unfoldable |opaque |pub )+", line)]
     depth = min(map(indent_of, own), default=0)
     return [line[depth:].replace("pub ", "", 1) for line in own] if len(own) <= MOST_LINES else []
+
+
+def is_of_errors_alone(clauses):
+    """Whether there are clauses, and each speaks of an error alone."""
+    codes = [clause.code() for clause in ensured(clauses)]
+    return bool(codes) and all(IF_ERROR.search(code) and not IF_OK.search(code) for code in codes)
+
+
+def tells_no_cause(said):
+    """Whether a statement names an error, and says no more of it."""
+    is_clause = said.statement.owner == "clause"
+    return bool(ALONE.fullmatch(inside(said.statement)) if is_clause else BARE.fullmatch(said.text))
 
 
 class Definitions:
@@ -121,6 +133,8 @@ class Promise:
         words = [word for statement in [*said, *self.outcomes.clauses_if_ok] for word in cited_by(statement)]
         lines += self.definitions.few_lines(words)
         clauses = [f"    {clauses_named(self.outcomes.clauses_if_ok)}, above"] if self.outcomes.clauses_if_ok else []
+        if not clauses and not lines and is_of_errors_alone(self.clauses):
+            return ["If it is Ok, no clause speaks of it: it promises nothing.", ""]
         return ["If it is Ok:", "", *clauses, *lines, ""] if clauses or lines else []
 
     def always(self):
@@ -226,9 +240,9 @@ class ErrorLines:
         return []
 
     def of_error(self, name, said):
-        lines = [self.errors.title(name)]
+        lines, is_bare = [self.errors.title(name)], all(map(tells_no_cause, said))
         for each in sorted(said, key=lambda each: (not NEVER.search(each.text), self.is_clause_of_several(each))):
-            lines += self.of_clause(each) if each.statement.owner == "clause" else self.of_word(each)
+            lines += self.of_clause(each, is_bare) if each.statement.owner == "clause" else self.of_word(each, is_bare)
         if not self.is_short:
             lines += self.definitions.lines(self.below, True)
             self.below = []
@@ -238,18 +252,18 @@ class ErrorLines:
         statement = said.statement
         return statement.owner == "clause" and len(named_in(statement.code(), statement.uses, self.errors)) > 1
 
-    def of_clause(self, said):
+    def of_clause(self, said, is_bare):
         clause = said.statement
         self.below += cited_by(clause)
         if self.is_short:
-            bare = ", which tells no cause" if ALONE.fullmatch(inside(clause)) else ""
+            bare = ", which tells no cause" if is_bare else ""
             return [f"    the clause {name_of(clause)}, above{bare}"]
         if clause.place() in self.shown:
             return wrapped("and the clause above", clause.place())
         self.shown.add(clause.place())
         return [*self.comment(clause.comment), *wrapped(said.text, clause.place())]
 
-    def of_word(self, said):
+    def of_word(self, said, is_bare):
         statement = said.statement
         if said.is_of_record and body_of(said.word):
             return self.definitions.lines([said.word], True, "    ")
@@ -259,7 +273,7 @@ class ErrorLines:
                  if word and (word.path, word.line) not in self.ways]
         is_told = self.is_short and any(is_claim(word) and parts_of(word)[1] for word in words)
         lines = [] if is_told else self.comment(statement.comment or said.comment or "")
-        bare = ", for no cause that is told" if BARE.fullmatch(said.text) else ""
+        bare = ", for no cause that is told" if is_bare else ""
         never = "not at all where this is kept: " if NEVER.search(said.text) else ""
         text = meant(said.text) if self.is_short and is_claim(said.word) else said.text
         lines += wrapped(never + text + bare, statement.place() if self.is_short else placed(statement))

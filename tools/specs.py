@@ -97,7 +97,8 @@ def definitions_in(path, head_of_line=HEAD.match):
         if MODULE.match(line):
             around.append(at)
         head = head_of_line(line)
-        if head and not FIELD.match(line):
+        is_in_module = around and indent_of(line) == indent_of(lines[around[-1]]) + 2
+        if head and (is_in_module or not FIELD.match(line)):
             modules = [lines[comment_above(lines, top, "--"):end_of_head(lines, top)] for top in around]
             own = lines[comment_above(lines, at, "--"):end_of(lines, at, head[1])]
             found.append(Definition(head[1], path, at + 1, comment or of_file, tuple(sum([*modules, own], []))))
@@ -157,6 +158,9 @@ def specs_of(crate):
 def definition_of(crate, parts, name):
     """Returns the definition of a name in a file of the crate's specs, or in what that file hands on; or None."""
     path = f"{specs_of(crate)}/{'/'.join(parts)}.antt"
+    if crate == "std" and not os.path.exists(path):
+        # std hands on the files of core.
+        return definition_of("core", parts, name)
     if name in words_of(path):
         return words_of(path)[name]
     for here, other, place, there in uses_in(line for line in lines_of(path) if line.startswith("pub use")):
