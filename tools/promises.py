@@ -165,7 +165,9 @@ class Promise:
             besides = " but what holds whatever it returns" if self.outcomes.clauses or self.outcomes.fields else ""
             return [f"Its error is {self.kind}. No clause speaks of it: it promises nothing{besides}.", ""]
         if self.told and ways or any(told.named() for told in self.told):
-            return self.of_types(self.told)
+            is_bare = not ways and not general and all(ALONE.fullmatch(inside(clause)) for clause in speaking)
+            says_more = self.outcomes.clauses or self.outcomes.fields
+            return [*self.of_types(self.told), *(["What an error leaves no clause says.", ""] if is_bare and not says_more else [])]
         return self.of_other(speaking, general)
 
     def of_other(self, clauses, equations):
