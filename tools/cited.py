@@ -3,7 +3,7 @@ import os
 import re
 from typing import NamedTuple
 
-from sources import members_of, model_of, type_at
+from sources import comment_of, members_of, model_of, type_at
 from specs import TOP, definition_of, lines_of, uses_in, words_of
 
 # A word of a clause, with what stands behind its dots.
@@ -44,7 +44,8 @@ def seen_of(crate, name, file="*"):
     if not model:
         return Word(name, path, at + 1, tuple(lines), uses_of(path))
     members = [text for member, _, text in members_of(model) if member != "coded"]
-    return Word(name, model.path, model.start + 1, (model.head, *sum(members, [])), uses_of(model.path, model))
+    text = (*comment_of(lines_of(path), at), model.head, *sum(members, []))
+    return Word(name, model.path, model.start + 1, text, uses_of(model.path, model))
 
 
 def meaning(crate, parts, name):

@@ -17,7 +17,7 @@ MOST_UNNAMED = 8
 # The most lines of definitions, and of those on errors, that stand below a contract without being asked for.
 MOST_SHORT_LINES = 45
 WIDTH = 120
-MAY_BE_RULED_OUT = "with comments; another clause may rule one out"
+MAY_BE_RULED_OUT = "with its comment, and below when it comes; another clause may rule one out"
 # A clause that names the only error, and says no more of it.
 ALONE = re.compile(r"(?:IfErr|OnErr) result \(λ (\w+)\. \(?\1 ≡ [\w.]+\)?(?: ⊎ \(*\1 ≡ [\w.]+\)*)*\)")
 
