@@ -5,7 +5,7 @@ from cited import is_of_kit, words_in
 from refusals import chosen_by, is_chosen, is_record
 from statements import alternatives, closes_at, factors, handed_to, one_line, parts_between, parts_of, split_at, stripped
 
-OF_ITS_KIND = re.compile(r"\b(?:IfOk|OnOk|IfErr|OnErr|MatchResult|IfSome|IfNone|ForOk|ForErr|Ok|Err)\b")
+OF_ITS_KIND = re.compile(r"\b(?:IfOk|OnOk|IfErr|OnErr|MatchResult|IfSome result|IfNone result|ForOk|ForErr|Ok|Err)\b")
 BY_RESULT = re.compile(rf"{OF_ITS_KIND.pattern}|\bresult\b")
 IF_OK = re.compile(r"\b(?:IfOk|OnOk|MatchResult|ForOk|Ok)\b")
 IF_ERROR = re.compile(r"\b(?:IfErr|OnErr|MatchResult|ForErr|Err)\b")

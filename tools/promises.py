@@ -19,7 +19,7 @@ MOST_SHORT_LINES = 45
 WIDTH = 120
 MAY_BE_RULED_OUT = "with its comment, and below when it comes; another clause may rule one out"
 # A clause that names the only error, and says no more of it.
-ALONE = re.compile(r"(?:IfErr|OnErr) result \(λ (\w+)\. \(?\1 ≡ [\w.]+\)?(?: ⊎ \(*\1 ≡ [\w.]+\)*)*\)")
+ALONE = re.compile(r"(?:.*→ )?(?:IfErr|OnErr) result \(λ (\w+)\. \(?\1 ≡ [\w.]+\)?(?: ⊎ \(*\1 ≡ [\w.]+\)*)*\)")
 
 
 def wrapped(text, place_of_it="", indent="    "):
