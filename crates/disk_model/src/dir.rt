@@ -6,15 +6,24 @@ ghost use Rattle.disk_model.specs.Events.{states_from, failures_of, AllAgree};
 ghost use Rattle.disk_model.specs.declared.fill.Fill.{Fill};
 ghost use Rattle.disk_model.specs.declared.fill.Fill.TheVariants.{New};
 
-use crate::first_error::{FirstError, NAMES};
+use crate::device::{Device, NAMES};
+use crate::first_error::FirstError;
 use crate::past::{Note, Past};
 use crate::{DeviceError, Disk};
 use std::alloc::{AllocError, Global};
-use std::fs::{File, OpenOptions};
+use std::fs::{File, OpenOptions, TryLockError};
 use std::io;
 use std::marker::PhantomData;
-use std::os::unix::fs::FileExt;
+use std::os::fd::AsRawFd;
+use std::os::unix::fs::OpenOptionsExt;
 use std::rt::Files as FileSystem;
+
+/// The rights of a file that is made: its owner may read and write it, and nobody else. The system takes
+/// from them what the process's umask says.
+const OWNER_ALONE: u32 = 0o600;
+
+/// Why a directory can't be opened whose lock another process or value has.
+const IN_USE: &str = "in use by another process";
 
 /// What the files hold as they are opened, which no code can read. A function over `S: Start` is
 /// proved for all that they may hold.
@@ -46,12 +55,10 @@ impl Start for Unknown {
 
 /// The files `ckpt-a`, `ckpt-b`, `log-a` and `log-b` of a directory, in this order. One that is
 /// absent has length 0. A sync is the system's `fdatasync`, which covers the file's length. What the
-/// files hold is the premise `honest`. As long as the value lives it holds the system's exclusive locks
-/// on the directory's file `lock`, and on each of the four that is there.
+/// files hold is the premise `honest`. As long as the value lives, or a `FirstError` of it, it holds the
+/// system's exclusive locks on the directory's file `lock`, and on each of the four that is there.
 #[derive(Drop)]
 pub struct DirDisk<S: Start> {
-    _lock: File,
-    files: [Option<File>; 4],
     past: Past,
     first_error: FirstError,
     start: PhantomData<S>,
@@ -61,9 +68,9 @@ pub struct DirDisk<S: Start> {
 impl<S: Start> DirDisk<S> {
     /// Opens the files that are there. A write to one that is absent fails. `S` stands for what the
     /// files hold; its value is used up, so that code over any `S` opens one directory. The
-    /// directory is locked first, and then each file. If the directory is missing, or another value or
-    /// program holds one of the locks, this is an error, and nothing of the four files was read or
-    /// written.
+    /// directory is locked first. Only then each file is opened and locked, and what the system has
+    /// cached of it is given up. If the directory is missing, or another value or program holds one of
+    /// the locks (`WouldBlock`), this is an error, and nothing of the four files was read or written.
     pub fn open<R: FileSystem<File = File>>(
         rt: &R,
         alloc: Global,
@@ -72,13 +79,11 @@ impl<S: Start> DirDisk<S> {
     ) -> io::Result<DirDisk<S>>
         ensures { IfOk result (λ disk. disk.past.events ≡ []) }
     {
-        let mut how = OpenOptions::new();
-        how.read(true).write(true);
-        open_files(rt, alloc, directory, &how)
+        open_files(rt, alloc, directory, &options(false))
     }
 
-    /// The same, but makes the files that are absent once the directory is locked. They and their names
-    /// are on the disk after it.
+    /// The same, but makes the files that are absent once the directory is locked. Their owner alone may
+    /// read and write them. They and their names are on the disk after it.
     pub fn create<R: FileSystem<File = File>>(
         rt: &R,
         alloc: Global,
@@ -87,15 +92,20 @@ impl<S: Start> DirDisk<S> {
     ) -> io::Result<DirDisk<S>>
         ensures { IfOk result (λ disk. disk.past.events ≡ []) }
     {
-        let mut how = OpenOptions::new();
-        how.read(true).write(true).create(true);
-        open_files(rt, alloc, directory, &how)
+        open_files(rt, alloc, directory, &options(true))
     }
 
-    /// What tells of the first call that fails, also after the disk was handed on.
+    /// What tells of the files and of the first call that fails, also after the disk was handed on.
     pub fn first_error(&self) -> Result<FirstError, AllocError> {
         self.first_error.again()
     }
+}
+
+/// How a file is opened, and made if it is absent and `makes` says so.
+fn options(makes: bool) -> OpenOptions {
+    let mut how = OpenOptions::new();
+    how.read(true).write(true).create(makes).mode(OWNER_ALONE);
+    how
 }
 
 fn open_files<R: FileSystem<File = File>, S: Start>(
@@ -111,15 +121,14 @@ fn open_files<R: FileSystem<File = File>, S: Start>(
     // The names too are to be there after a stop.
     File::open(rt, directory)?.sync_all()?;
     Ok(DirDisk {
-        _lock: lock,
-        files,
         past: Past::new(),
-        first_error: FirstError::new(alloc)?,
+        first_error: FirstError::of(alloc, Device::locked(lock, files))?,
         start: PhantomData,
     })
 }
 
-/// The four files, each locked, of which some may be absent.
+/// The four files, each locked, of which some may be absent. The first read of one asks the device: over a
+/// network the system may have cached what another machine has written over since.
 fn open_four<R: FileSystem<File = File>>(
     rt: &R,
     alloc: Global,
@@ -130,14 +139,13 @@ fn open_four<R: FileSystem<File = File>>(
     for (file, name) in files.iter_mut().zip(&NAMES) {
         *file = open_one(rt, how, format!(in alloc; "{directory}/{name}")?)?;
     }
+    files.iter().flatten().for_each(give_up_cached);
     Ok(files)
 }
 
 /// The file that stands for the directory, which is made if it is absent.
 fn lock_directory<R: FileSystem<File = File>>(rt: &R, path: String) -> io::Result<File> {
-    let mut how = OpenOptions::new();
-    how.read(true).write(true).create(true);
-    open_locked(rt, &how, path)
+    open_locked(rt, &options(true), path)
 }
 
 /// Opens the file, and locks it. The lock lasts until the file is closed.
@@ -147,8 +155,17 @@ fn open_locked<R: FileSystem<File = File>>(
     path: String,
 ) -> io::Result<File> {
     let file = how.open(rt, path.as_str())?;
-    file.try_lock()?;
-    Ok(file)
+    match file.try_lock() {
+        Ok(()) => Ok(file),
+        Err(TryLockError::WouldBlock) => Err(io::Error::new(io::ErrorKind::WouldBlock, IN_USE)),
+        Err(TryLockError::Error(error)) => Err(error),
+    }
+}
+
+/// Has the system give up what it has cached of the file. It is advice: if the system refuses it, the
+/// file is read as it comes.
+fn give_up_cached(file: &File) {
+    let _advised = libc::posix_fadvise(file.as_raw_fd(), 0, 0, libc::POSIX_FADV_DONTNEED);
 }
 
 fn open_one<R: FileSystem<File = File>>(
@@ -163,57 +180,6 @@ fn open_one<R: FileSystem<File = File>>(
     }
 }
 
-fn measure(file: &Option<File>) -> io::Result<usize> {
-    match file {
-        Some(file) => Ok(file.metadata()?.len() as usize),
-        None => Ok(0),
-    }
-}
-
-/// Reads from that offset on until `buf` is full or the file ends, and returns how many bytes it read.
-/// What a signal interrupts is tried again; any other error ends it.
-pub fn fill_at<F: FileExt>(file: &F, at: usize, buf: &mut [u8]) -> io::Result<usize>
-    ensures { IfOk result (λ n. n ≤ length buf.old) }
-{
-    let mut done = 0;
-    for _turn in 0..u64::MAX {
-        if done >= buf.len() {
-            return Ok(done);
-        }
-        let offset = (at as u64).saturating_add(done as u64);
-        match file.read_at(&mut buf[done..], offset) {
-            Ok(0) => return Ok(done),
-            Ok(count) => done += count,
-            Err(error) if error.kind() == io::ErrorKind::Interrupted => {}
-            Err(error) => return Err(error),
-        }
-    }
-    Err(io::ErrorKind::Interrupted.into())
-}
-
-fn read_bytes(file: &Option<File>, at: usize, buf: &mut [u8]) -> io::Result<usize>
-    ensures { IfOk result (λ n. n ≤ length buf.old) }
-{
-    match file {
-        Some(file) => fill_at(file, at, buf),
-        None => Ok(0),
-    }
-}
-
-fn write_all(file: &Option<File>, at: usize, bytes: &[u8]) -> io::Result<()> {
-    match file {
-        Some(file) => file.write_all_at(bytes, at as u64),
-        None => Err(io::ErrorKind::NotFound.into()),
-    }
-}
-
-fn sync_data(file: &Option<File>) -> io::Result<()> {
-    match file {
-        Some(file) => file.sync_data(),
-        None => Ok(()),
-    }
-}
-
 impl<S: Start> Disk for DirDisk<S> {
     ghost states = { λ disk. states_from S.Start.files S.Start.left disk.past.events };
 
@@ -222,7 +188,7 @@ impl<S: Start> Disk for DirDisk<S> {
     ghost honest = { λ disk. AllAgree S.Start.files S.Start.left disk.past.events };
 
     fn len(&mut self, file: usize) -> Result<usize, DeviceError> {
-        match measure(&self.files[file]) {
+        match self.first_error.device().len(file) {
             Ok(len) => {
                 self.past = self.past.with(&Note::Measured { file, len });
                 Ok(len)
@@ -237,7 +203,7 @@ impl<S: Start> Disk for DirDisk<S> {
 
     fn read(&mut self, file: usize, at: usize, buf: &mut [u8]) -> Result<usize, DeviceError> {
         let room = buf.len();
-        match read_bytes(&self.files[file], at, buf) {
+        match self.first_error.device().read(file, at, buf) {
             Ok(count) => {
                 self.past = self.past.with(&Note::Gave {
                     file,
@@ -256,7 +222,7 @@ impl<S: Start> Disk for DirDisk<S> {
     }
 
     fn write_at(&mut self, file: usize, at: usize, bytes: &[u8]) -> Result<(), DeviceError> {
-        match write_all(&self.files[file], at, bytes) {
+        match self.first_error.device().write(file, at, bytes) {
             Ok(()) => {
                 self.past = self.past.with(&Note::Wrote { file, at, bytes });
                 Ok(())
@@ -270,7 +236,7 @@ impl<S: Start> Disk for DirDisk<S> {
     }
 
     fn sync(&mut self, file: usize) -> Result<(), DeviceError> {
-        match sync_data(&self.files[file]) {
+        match self.first_error.device().sync(file) {
             Ok(()) => {
                 self.past = self.past.with(&Note::Synced { file });
                 Ok(())

@@ -1,13 +1,14 @@
-//! The first call of a directory's files that failed, told apart from the disk.
+//! The first call of a directory's files that failed, and the files themselves, told apart from the disk.
 ghost use Rattle.std.specs.Prelude.{◌<◌};
 
+use crate::device::{Device, DeviceCall, NAMES};
 use std::alloc::{AllocError, Global};
 use std::io;
 use std::sync::{Arc, OnceLock};
 use thiserror::Error;
 
-/// The names of the four files, in the order of their numbers.
-pub(crate) const NAMES: [&str; 4] = ["ckpt-a", "ckpt-b", "log-a", "log-b"];
+/// What is said of a file that has no name any more.
+const REMOVED: &str = "it was removed";
 
 /// A call of a file that failed.
 #[derive(Debug, Drop, Error)]
@@ -19,29 +20,65 @@ pub struct FileError {
     pub error: io::Error,
 }
 
-/// The first call of a directory's files that failed, if any has. It is shared with the `DirDisk` that
-/// makes the calls, so it still tells of them after the disk was handed to a keeper.
+/// What a disk and those who watch it share.
+#[derive(Drop)]
+struct Watched {
+    device: Device,
+    error: OnceLock<FileError>,
+}
+
+/// The first call of a directory's files that failed, if any has, the call that is under way, and whether
+/// the files still have names. It is shared with the `DirDisk` that makes the calls, so it still tells of
+/// them after the disk was handed to a keeper. Any thread may ask, and none waits for another.
 #[derive(Drop)]
 pub struct FirstError {
-    cell: Arc<OnceLock<FileError>, Global>,
+    watched: Arc<Watched, Global>,
 }
 
 impl FirstError {
-    /// Nothing has failed yet.
+    /// Of no files: nothing ever fails.
     pub fn new(alloc: Global) -> Result<FirstError, AllocError> {
-        let cell = Arc::new(alloc, OnceLock::new())?;
-        Ok(FirstError { cell })
+        FirstError::of(alloc, Device::absent())
+    }
+
+    /// Of these files, of which nothing has failed yet.
+    pub(crate) fn of(alloc: Global, device: Device) -> Result<FirstError, AllocError> {
+        let error = OnceLock::new();
+        let watched = Arc::new(alloc, Watched { device, error })?;
+        Ok(FirstError { watched })
     }
 
     /// A second value for the same calls.
     pub fn again(&self) -> Result<FirstError, AllocError> {
-        let cell = Arc::try_clone(&self.cell)?;
-        Ok(FirstError { cell })
+        let watched = Arc::try_clone(&self.watched)?;
+        Ok(FirstError { watched })
+    }
+
+    /// The files whose calls these are.
+    pub(crate) fn device(&self) -> &Device {
+        &self.watched.device
     }
 
     /// The call, once one has failed.
     pub fn get(&self) -> Option<&FileError> {
-        self.cell.get()
+        self.watched.error.get()
+    }
+
+    /// The device call that was begun and has not ended, if there is one. It asks no device. If the same
+    /// value comes again, that call has not ended in between.
+    pub fn under_way(&self) -> Option<DeviceCall> {
+        self.device().under_way()
+    }
+
+    /// Whether one of the four files has no name any more, as after `rm -r`: what is written to it is
+    /// lost once the process ends. Then this is the first error, unless there was one. It asks the
+    /// system about each file, and so may wait for a file system that doesn't answer.
+    pub fn note_removal(&self) -> bool {
+        let Some(file) = self.device().nameless() else {
+            return false;
+        };
+        self.note(file, io::Error::new(io::ErrorKind::NotFound, REMOVED));
+        true
     }
 
     /// Keeps the error, if it is the first.
@@ -49,6 +86,6 @@ impl FirstError {
         requires { file < 4 }
     {
         let file = NAMES[file];
-        let _kept = self.cell.try_set(FileError { file, error });
+        let _kept = self.watched.error.try_set(FileError { file, error });
     }
 }

@@ -1,6 +1,7 @@
 //! Four numbered files of bytes, and what a stop of the machine may leave of them.
 #![tactic(auto)]
 
+mod device;
 mod dir;
 mod disk;
 mod fill;
@@ -10,7 +11,8 @@ mod memory;
 mod past;
 mod plan;
 
-pub use dir::{DirDisk, Start, Unknown, fill_at};
+pub use device::{DeviceCall, fill_at};
+pub use dir::{DirDisk, Start, Unknown};
 pub use disk::{DeviceError, Disk};
 pub use fill::Fill;
 pub use first_error::{FileError, FirstError};
