@@ -3,7 +3,7 @@
 ghost use Rattle.std.specs.Prelude.{◌≡◌, ◌≢◌, ◌⊎◌, ◌<◌, ◌≤◌, ◌↔◌, [], true, false, IsTrue, IsSome, IfNone, IfSome};
 ghost use Rattle.std.specs.VecDeque.{deque_capacity};
 ghost use Rattle.wire_frames.specs.Messages.{IsPartial};
-ghost use Rattle.wire_frames.specs.Feed.{BeginsBulk};
+ghost use Rattle.wire_frames.specs.Feed.{BeginsBulk, BeginsCount};
 ghost use Rattle.connections.specs.declared.exchange.Stage.TheVariants.{Open};
 ghost use Rattle.connections.specs.Past.{MayBegin, standing};
 
@@ -103,6 +103,13 @@ impl<H> Connection<H> {
         ensures { IsTrue result ↔ BeginsBulk self.now.feeder }
     {
         self.feeder.begins_bulk()
+    }
+
+    /// Whether the next message in hand asks for a count.
+    pub fn asks_count(&self) -> bool
+        ensures { IsTrue result ↔ BeginsCount self.now.feeder }
+    {
+        self.feeder.begins_count()
     }
 
     /// Whether the answer of its first call will likely be had without a wait. It is a hint, and no

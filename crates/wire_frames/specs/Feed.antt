@@ -4,7 +4,7 @@ use Rattle.map_types.specs.declared.refusals.Refusal.TheVariants.{BadFrame}
 use Rattle.wire_frames.specs.declared.feeder.First.{First}
 use Rattle.wire_frames.specs.declared.feeder.First.TheVariants.{Partial, Refused, Whole}
 use Rattle.wire_frames.specs.Messages.{frame, Message, AsksWholeMap, IsBody, IsPartial, IsRefusedLength, Says}
-use Rattle.wire_frames.specs.Requests.{HasBulkMethod}
+use Rattle.wire_frames.specs.Requests.{HasBulkMethod, HasCountMethod}
 use Rattle.wire_frames.specs.Held.{Feed}
 
 -- what stands at the front of the bytes
@@ -25,14 +25,22 @@ Takes old new message =
     × ((IsRefusedLength old.left × (message ≡ Err BadFrame) × (new ≡ record { left = old.left; ended = true }))
     ⊎ ((body : List ℕ) × IsBody body × (old.left ≡ frame body ++ new.left) × (new.ended ≡ false) × Says body message))
 
--- the next whole frame begins with the method of a call of the whole map
-pub record BeginsBulk (feed : Feed) : Type 0 where
+-- the next whole frame has a body of which this is true
+pub record HasNext (IsSo : List ℕ → Type 0) (feed : Feed) : Type 0 where
   pub opened : feed.ended ≡ false
   pub body : List ℕ
   pub rest : List ℕ
   pub is_body : IsBody body
   pub parts : feed.left ≡ frame body ++ rest
-  pub method : HasBulkMethod body
+  pub method : IsSo body
+
+-- the next whole frame begins with the method of a call of the whole map
+abbrev pub BeginsBulk : Feed → Type 0
+BeginsBulk feed = HasNext HasBulkMethod feed
+
+-- the next whole frame begins with the method of a count
+abbrev pub BeginsCount : Feed → Type 0
+BeginsCount feed = HasNext HasCountMethod feed
 
 -- a message that asks something of the whole map comes out of such a frame
 abbrev pub WholeMapBeginsBulk : Type 0

@@ -78,6 +78,11 @@ abbrev pub HasBulkMethod : List ℕ → Type 0
 HasBulkMethod [] = ⊥
 HasBulkMethod (method ∷ arguments) = IsBulkMethod method
 
+-- the bytes begin with the method of a count
+abbrev pub HasCountMethod : List ℕ → Type 0
+HasCountMethod [] = ⊥
+HasCountMethod (method ∷ arguments) = method ≡ count_method
+
 -- of a change its record
 abbrev pub request_bytes : Request → List ℕ
 request_bytes (requests.Read read) =

@@ -3,9 +3,9 @@
 ghost use Rattle.std.specs.Prelude.{◌≡◌, ◌⊎◌, ◌↔◌, true, false, [], IfNone, IfSome, IsTrue, OnOk, OnErr};
 ghost use Rattle.wire_frames.specs.Messages.{IsPartial, OneDivision, EveryDivision};
 ghost use Rattle.wire_frames.specs.Held.{fed};
-ghost use Rattle.wire_frames.specs.Feed.{BeginsBulk, HasMessage, IsFirst, Takes, WholeMapBeginsBulk};
+ghost use Rattle.wire_frames.specs.Feed.{BeginsBulk, BeginsCount, HasMessage, IsFirst, Takes, WholeMapBeginsBulk};
 
-use crate::requests::{Request, has_bulk_method, read_request};
+use crate::requests::{Request, has_bulk_method, has_count_method, read_request};
 use map_types::Refusal;
 use std::alloc::{AllocError, Global};
 use std::marker::Model;
@@ -142,6 +142,19 @@ impl Feeder {
             First::Partial | First::Refused => false,
             First::Whole(body, _) => has_bulk_method(body),
         }
+    }
+
+    /// Whether the next whole frame begins with the method of a count. It takes nothing.
+    pub fn begins_count(&self) -> bool
+        ensures { IsTrue result ↔ BeginsCount self.now }
+    {
+        if self.ended {
+            return false;
+        }
+        if let First::Whole(body, _) = first_of(&self.held[self.start..]) {
+            return has_count_method(body);
+        }
+        false
     }
 
     /// The next message, once a whole frame is there or a length is refused: a frame's request, or

@@ -2,7 +2,7 @@
 
 ghost use Rattle.std.specs.Prelude.{◌≡◌, ◌↔◌, IsTrue};
 ghost use Rattle.log_records.specs.Reading.{Gives, Reads};
-ghost use Rattle.wire_frames.specs.Requests.{HasBulkMethod, IsBulkMethod, ReadIsSpelled, SpelledIsRead, change_at, get_or_default_at, question_at, reduce_at, reduces, reducing_at, request_at, request_of, search_at};
+ghost use Rattle.wire_frames.specs.Requests.{HasBulkMethod, HasCountMethod, IsBulkMethod, ReadIsSpelled, SpelledIsRead, change_at, get_or_default_at, question_at, reduce_at, reduces, reducing_at, request_at, request_of, search_at};
 
 use log_records::{Version, func_at, key_at, laws, number_at, record_at, some_value_at};
 use map_types::{Command, Func, Question, Read, Refusal, Value};
@@ -155,6 +155,16 @@ pub(crate) fn has_bulk_method(body: &[u8]) -> bool
         return false;
     };
     is_bulk_method(*method)
+}
+
+/// Whether the bytes of a frame behind its length begin with the method of a count.
+pub(crate) fn has_count_method(body: &[u8]) -> bool
+    ensures { IsTrue result ↔ HasCountMethod body.now }
+{
+    let Some((method, _)) = body.split_first() else {
+        return false;
+    };
+    *method == COUNT
 }
 
 /// The request that the bytes of a frame behind its length say, or the first refusal that is met
