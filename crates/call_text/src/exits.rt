@@ -54,14 +54,19 @@ pub fn stream_failed<L: Log, E: Write>(rt: &L, stream: &str, cause: &io::Error, 
     break_off(error)
 }
 
-/// Says why a directory or a file can't be opened.
+/// Says why a directory or a file can't be opened: no memory was found, another process has its lock, or it
+/// can't be read.
 pub fn cannot_open<E: Write>(alloc: Global, failure: &io::Error, error: &mut E) -> u8
     ensures { result ≡ 1 }
 {
-    if failure.kind() == ErrorKind::OutOfMemory {
-        return refuse(alloc, Refusal::NoMemory, error);
+    match failure.kind() {
+        ErrorKind::OutOfMemory => refuse(alloc, Refusal::NoMemory, error),
+        ErrorKind::WouldBlock => {
+            say(error, "in use by another process\n");
+            REFUSED
+        }
+        _ => break_off(error),
     }
-    break_off(error)
 }
 
 /// Prints the text. If the output fails, a record has the cause.

@@ -2,7 +2,7 @@
 ghost use Rattle.std.specs.Prelude.{◌≡◌};
 ghost use Rattle.cmd_directory.specs.Directory.{Checks, Formats, Inits, Inspects};
 
-use crate::opening::Directories;
+use crate::opening::{Directories, create_directory, open_directory};
 use crate::summary::summarize;
 use call_text::{MISUSED, cannot_open, print, refuse, say, stripes_named};
 use disk_model::{Disk, FirstError};
@@ -14,6 +14,7 @@ use std::alloc::Global;
 use std::io;
 use std::io::Write;
 use std::thread::Threads;
+use std::time::Clock;
 
 /// Says on `error` what was refused. If a call of the directory's files has failed, a record before it
 /// says which, and why.
@@ -96,8 +97,8 @@ pub fn check_disk<L: Log + Threads + Sync, D: Disk, W: Write, E: Write>(
 }
 
 /// Makes the directory that of an empty map of `stripes` stripes. If the system refuses a call, a record
-/// has the cause.
-pub fn init<L: Log, M: Directories, W: Write, E: Write>(
+/// has the cause. A lock that another process has is tried for a second.
+pub fn init<L: Clock + Log, M: Directories, W: Write, E: Write>(
     rt: &L,
     machine: &M,
     alloc: Global,
@@ -113,7 +114,7 @@ pub fn init<L: Log, M: Directories, W: Write, E: Write>(
         say(error, "S is a power of two from 1 to 256\n");
         return MISUSED;
     };
-    match machine.create_files(alloc, directory) {
+    match create_directory(rt, machine, alloc, directory) {
         Ok(mut disk) => {
             let first_error = M::first_error(&disk).ok();
             let first_error = first_error.as_ref();
@@ -123,8 +124,9 @@ pub fn init<L: Log, M: Directories, W: Write, E: Write>(
     }
 }
 
-/// Prints what the directory stands for. If the system refuses a call, a record has the cause.
-pub fn check<L: Log + Threads + Sync, M: Directories, W: Write, E: Write>(
+/// Prints what the directory stands for. If the system refuses a call, a record has the cause. A lock
+/// that another process has is tried for a second.
+pub fn check<L: Clock + Log + Threads + Sync, M: Directories, W: Write, E: Write>(
     rt: &L,
     machine: &M,
     alloc: Global,
@@ -135,7 +137,7 @@ pub fn check<L: Log + Threads + Sync, M: Directories, W: Write, E: Write>(
     ensures { Inspects M.Opened.states M.Opened.failures M.Opened.honest M.is_opened M.is_refused
         directory.now (W.contents output.old) (W.contents output.new) result }
 {
-    match machine.open_files(alloc, directory) {
+    match open_directory(rt, machine, alloc, directory) {
         Ok(disk) => {
             let first_error = M::first_error(&disk).ok();
             let first_error = first_error.as_ref();

@@ -6,5 +6,5 @@ pub mod opening;
 pub mod summary;
 
 pub use directory::{check, check_disk, init, init_disk};
-pub use opening::Directories;
+pub use opening::{Directories, create_directory, open_directory};
 pub use summary::{Summary, summarize};
