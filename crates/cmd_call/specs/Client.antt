@@ -23,8 +23,8 @@ use Rattle.wire_frames.specs.Receiving.{ReadsReply}
 use Rattle.cmd_call.specs.declared.client.Unanswered.{Unanswered}
 use Rattle.cmd_call.specs.declared.client.Unanswered.TheVariants.{NoReply, NoMemory}
 use Rattle.cmd_call.specs.declared.places.PlaceWords.{PlaceWords}
-use Rattle.cmd_call.specs.declared.servers.Place.{Place}
-use Rattle.cmd_call.specs.Places.{NamesNoPlace, NamesPlace}
+use Rattle.cmd_call.specs.declared.servers.Server.{Server}
+use Rattle.cmd_call.specs.Places.{NamesNoServer, NamesServer}
 
 -- the bytes that a reader has left, or that a writer holds, if they are known
 abbrev pub Known : Type 0
@@ -89,35 +89,35 @@ request_of (called.Search threshold value) = request.Bulk (bulk.Search threshold
 abbrev pub PrintsMisuse : Known → Known → ℕ → Type 0
 PrintsMisuse o0 o1 status = (o1 ≡ o0) × (status ≡ 2)
 
--- IsConnected says of a reader and a writer that they are the ends of a new connection to a place. IsUnreachable says
--- that a connection to a place was tried, and there was none, for an error.
-module _ {R W : Type 0} (remaining : R → Known) (contents : W → Known) (IsConnected : Place → R → W → Type 0)
-    (IsUnreachable : Place → Error → Type 0) where
-  -- a server was asked at the place, and its answer printed
-  pub record AsksAt (place : Place) (request : Request) (o0 o1 : Known) (status : ℕ) : Type 0 where
+-- IsConnected says of a reader and a writer that they are the ends of a new connection to a server. IsUnreachable says
+-- that a connection to a server was tried, and there was none, for an error.
+module _ {R W : Type 0} (remaining : R → Known) (contents : W → Known) (IsConnected : Server → R → W → Type 0)
+    (IsUnreachable : Server → Error → Type 0) where
+  -- a server was asked, and its answer printed
+  pub record AsksAt (server : Server) (request : Request) (o0 o1 : Known) (status : ℕ) : Type 0 where
     pub reader : R
     pub reader_after : R
     pub writer : W
     pub writer_after : W
-    pub connected : IsConnected place reader writer
+    pub connected : IsConnected server reader writer
     pub asks : AsksServer (remaining reader) (remaining reader_after) (contents writer)
         (contents writer_after) o0 o1 request status
 
-  -- no connection to the place could be had, and nothing was printed, with status 1
-  abbrev pub CannotConnect : Place → Known → Known → ℕ → Type 0
-  CannotConnect place o0 o1 status = (error : Error) × IsUnreachable place error × PrintsNothing o0 o1 status
+  -- no connection to the server could be had, and nothing was printed, with status 1
+  abbrev pub CannotConnect : Server → Known → Known → ℕ → Type 0
+  CannotConnect server o0 o1 status = (error : Error) × IsUnreachable server error × PrintsNothing o0 o1 status
 
-  -- a server was asked at the place, or no connection to it could be had
-  abbrev pub CallsAt : Place → Request → Known → Known → ℕ → Type 0
-  CallsAt place request o0 o1 status = AsksAt place request o0 o1 status ⊎ CannotConnect place o0 o1 status
+  -- a server was asked, or no connection to it could be had
+  abbrev pub CallsAt : Server → Request → Known → Known → ℕ → Type 0
+  CallsAt server request o0 o1 status = AsksAt server request o0 o1 status ⊎ CannotConnect server o0 o1 status
 
-  -- For the words of a call: if `at` names no place, nothing is printed, with status 2; else a server is asked for what
-  -- the words say, or can't be reached. If no memory was found to read the words, nothing is printed, with status 1.
+  -- For the words of a call: if `at` names no server, nothing is printed, with status 2; else one is asked for what the
+  -- words say, or can't be reached. If no memory was found to read the words, nothing is printed, with status 1.
   -- Words that are no call print nothing, with status 2; or 1 if no memory was found to read them.
   abbrev pub CallsServer : PlaceWords → Result Called BadWord → Known → Known → ℕ → Type 0
   CallsServer at (Ok called) o0 o1 status =
-      (NamesNoPlace at × PrintsMisuse o0 o1 status)
-      ⊎ ((place : Place) × NamesPlace at place × (CallsAt place (request_of called) o0 o1 status
+      (NamesNoServer at × PrintsMisuse o0 o1 status)
+      ⊎ ((server : Server) × NamesServer at server × (CallsAt server (request_of called) o0 o1 status
       ⊎ PrintsNothing o0 o1 status))
   CallsServer at (Err bad) o0 o1 status =
-      PrintsMisuse o0 o1 status ⊎ ((place : Place) × NamesPlace at place × PrintsNothing o0 o1 status)
+      PrintsMisuse o0 o1 status ⊎ ((server : Server) × NamesServer at server × PrintsNothing o0 o1 status)

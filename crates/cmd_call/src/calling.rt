@@ -4,7 +4,7 @@ ghost use Rattle.cmd_call.specs.Calling.{CallsLines, MakesCalls, asks_lines};
 
 use crate::client::call;
 use crate::input::answer_input;
-use crate::places::{PlaceWords, place_named};
+use crate::places::{PlaceWords, server_named};
 use crate::rounds::Stop;
 use crate::servers::Servers;
 use call_text::{MISUSED, refuse, say, stream_failed};
@@ -24,10 +24,12 @@ fn stop<L: Log, E: Write>(rt: &L, alloc: Global, why: Stop, error: &mut E) -> u8
     }
 }
 
-/// Makes a call of the server at the place that `at` names for each line of the input, and prints a
+/// Makes a call of the server that `at` names for each line of the input, and prints a
 /// line for each on `output`, in the same order: the reply; `refused` and the refusal; `misuse` and
 /// what is wrong with the line, which isn't sent; or `no reply`. Up to 64 lines in hand are asked
-/// together, over one connection. Once that is lost, each further call has no reply.
+/// together, over one connection. Once that is lost, each further call has no reply. It is given up if
+/// it can't be had in the time that `at` names, or if that passes while requests are sent, or while
+/// one reply is waited for.
 ///
 /// The status is that of the first line that isn't a reply: 2 for misuse, and else 1. It is 0 if all
 /// are replies. If memory, the input or the output fails, it is 1, and `error` says which; a record
@@ -45,15 +47,15 @@ pub fn call_lines<L: Log, M: Servers, I: Read, W: Write, E: Write>(
         M.is_unreachable at.now (I.remaining input.old) (I.remaining input.new)
         (W.contents output.old) (W.contents output.new) result }
 {
-    let place = match place_named(at) {
-        Ok(place) => place,
+    let server = match server_named(at) {
+        Ok(server) => server,
         Err(text) => {
             say(error, text);
             return MISUSED;
         }
     };
-    let mut server = machine.connect_to(place).ok();
-    match answer_input(alloc, &mut server, input, output) {
+    let mut ends = machine.connect_to(server).ok();
+    match answer_input(alloc, &mut ends, input, output) {
         Ok(status) => status,
         Err(why) => stop(rt, alloc, why, error),
     }

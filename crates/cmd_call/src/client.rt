@@ -3,8 +3,8 @@ ghost use Rattle.std.specs.Prelude.{◌≡◌, IfNone, IfOk, IfSome, map, string
 ghost use Rattle.call_text.specs.Whole.{parse_words};
 ghost use Rattle.cmd_call.specs.Client.{AsksServer, CallsAt, CallsServer, Exchanges, IsReplyLine, PrintsReply, keyed_request, request_of};
 
-use crate::places::{PlaceWords, place_named};
-use crate::servers::{Place, Servers};
+use crate::places::{PlaceWords, server_named};
+use crate::servers::{Server, Servers};
 use call_text::{
     Asked, BadWord, CallError, Called, MISUSED, REFUSED, parse_words, print, refuse, reply_text,
     say,
@@ -138,20 +138,20 @@ fn misuse<E: Write>(alloc: Global, word: BadWord, error: &mut E) -> u8
     MISUSED
 }
 
-/// Sends the request to the server at the place, and prints its reply.
+/// Sends the request to the server, and prints its reply.
 fn ask_at<L: Log, M: Servers, W: Write, E: Write>(
     rt: &L,
     machine: &M,
     alloc: Global,
-    place: Place<'_>,
+    server: Server<'_>,
     request: &Request,
     output: &mut W,
     error: &mut E,
 ) -> u8
     ensures { CallsAt M.Reader.remaining M.Writer.contents M.is_connected M.is_unreachable
-        place.entry request.now (W.contents output.old) (W.contents output.new) result }
+        server.entry request.now (W.contents output.old) (W.contents output.new) result }
 {
-    match machine.connect_to(place) {
+    match machine.connect_to(server) {
         Ok((mut reader, mut writer)) => {
             ask(rt, alloc, &mut reader, &mut writer, request, output, error)
         }
@@ -159,7 +159,8 @@ fn ask_at<L: Log, M: Servers, W: Write, E: Write>(
     }
 }
 
-/// Sends what the words ask for to the server at the place that `at` names, and prints its reply.
+/// Sends what the words ask for to the server that `at` names, and prints its reply. If the time that
+/// `at` names passes before the whole reply has come, there is none.
 pub fn call<L: Log, M: Servers, W: Write, E: Write>(
     rt: &L,
     machine: &M,
@@ -178,8 +179,8 @@ pub fn call<L: Log, M: Servers, W: Write, E: Write>(
         Err(CallError::Bad(word)) => return misuse(alloc, word, error),
         Err(CallError::NoMemory) => None,
     };
-    let place = match place_named(at) {
-        Ok(place) => place,
+    let server = match server_named(at) {
+        Ok(server) => server,
         Err(text) => {
             drop(request);
             say(error, text);
@@ -189,7 +190,7 @@ pub fn call<L: Log, M: Servers, W: Write, E: Write>(
     let Some(request) = request else {
         return refuse(alloc, Refusal::NoMemory, error);
     };
-    let status = ask_at(rt, machine, alloc, place, &request, output, error);
+    let status = ask_at(rt, machine, alloc, server, &request, output, error);
     drop(request);
     status
 }

@@ -8,7 +8,7 @@ ghost use Rattle.cmd_call.specs.Inputs.{AnswersInput, Breaks, Gave, Reads, Stops
 
 use crate::lines::LINE_END;
 use crate::rounds::{MOST_ASKED, Round, Stop, answer_round};
-use crate::servers::Replies;
+use crate::servers::{Replies, Requests};
 use call_text::DONE;
 use std::alloc::{AllocError, Global};
 use std::io;
@@ -30,7 +30,7 @@ struct Lines {
 }
 
 /// The part becomes a line. If there are enough lines, they are answered.
-fn end_line<R: Replies + Drop, W: Write + Drop, O: Write>(
+fn end_line<R: Replies + Drop, W: Requests + Drop, O: Write>(
     alloc: Global,
     server: &mut Option<(R, W)>,
     lines: &mut Lines,
@@ -62,7 +62,7 @@ fn end_line<R: Replies + Drop, W: Write + Drop, O: Write>(
 }
 
 /// Takes the next byte of the input.
-fn take_byte<R: Replies + Drop, W: Write + Drop, O: Write>(
+fn take_byte<R: Replies + Drop, W: Requests + Drop, O: Write>(
     alloc: Global,
     server: &mut Option<(R, W)>,
     lines: &mut Lines,
@@ -96,7 +96,7 @@ fn take_byte<R: Replies + Drop, W: Write + Drop, O: Write>(
 }
 
 /// Takes the next bytes of the input.
-fn take_bytes<R: Replies + Drop, W: Write + Drop, O: Write>(
+fn take_bytes<R: Replies + Drop, W: Requests + Drop, O: Write>(
     alloc: Global,
     server: &mut Option<(R, W)>,
     lines: &mut Lines,
@@ -129,7 +129,7 @@ fn take_bytes<R: Replies + Drop, W: Write + Drop, O: Write>(
 }
 
 /// Takes the next bytes of the input, and answers each whole line in hand.
-fn take_piece<R: Replies + Drop, W: Write + Drop, O: Write>(
+fn take_piece<R: Replies + Drop, W: Requests + Drop, O: Write>(
     alloc: Global,
     server: &mut Option<(R, W)>,
     lines: &mut Lines,
@@ -161,7 +161,7 @@ fn take_piece<R: Replies + Drop, W: Write + Drop, O: Write>(
 
 /// Answers what is left at the end of the input. What stands behind the last whole line is a line
 /// too.
-fn finish<R: Replies + Drop, W: Write + Drop, O: Write>(
+fn finish<R: Replies + Drop, W: Requests + Drop, O: Write>(
     alloc: Global,
     server: &mut Option<(R, W)>,
     lines: &mut Lines,
@@ -214,7 +214,7 @@ fn read_piece<I: Read>(input: &mut I, room: &mut [u8]) -> Result<usize, Stop>
 
 /// Asks what the lines of an input ask, and prints a line for each: the status of the first that
 /// isn't a reply, or 0.
-pub(crate) fn answer_input<I: Read, R: Replies + Drop, W: Write + Drop, O: Write>(
+pub(crate) fn answer_input<I: Read, R: Replies + Drop, W: Requests + Drop, O: Write>(
     alloc: Global,
     server: &mut Option<(R, W)>,
     input: &mut I,

@@ -4,14 +4,17 @@
 
 pub mod calling;
 pub mod client;
+mod deadlines;
 mod input;
 pub mod lines;
 pub mod outcomes;
 pub mod places;
 pub mod rounds;
 pub mod servers;
+pub mod streams;
 
 pub use calling::{call_lines, make_calls};
 pub use client::{ask, call};
-pub use places::{PlaceWords, place_named};
-pub use servers::{Place, Replies, ServerStream, Servers};
+pub use places::{PlaceWords, server_named};
+pub use servers::{Place, Replies, Requests, Server, Servers};
+pub use streams::ServerStream;

@@ -7,7 +7,7 @@ ghost use Rattle.cmd_call.specs.Rounds.{Comes, Receives, Sends, TellsRound};
 
 use crate::lines::{BadLine, asked_in};
 use crate::outcomes::{Outcome, first_of, put_line, status_of};
-use crate::servers::Replies;
+use crate::servers::{Replies, Requests};
 use std::alloc::{AllocError, AllocFailed, Global};
 use std::io;
 use std::io::Write;
@@ -84,11 +84,12 @@ impl Round {
 }
 
 /// Sends the frames. If not all of them can be written, the connection is given up.
-fn send<R: Replies + Drop, W: Write + Drop>(server: &mut Option<(R, W)>, frames: &[u8])
+fn send<R: Replies + Drop, W: Requests + Drop>(server: &mut Option<(R, W)>, frames: &[u8])
     ensures { Sends (ends_of R.remaining W.contents server.old)
         (ends_of R.remaining W.contents server.new) frames.now }
 {
     if let Some((_, writer)) = server {
+        writer.begin();
         if write_whole(writer, frames).is_err() {
             *server = None;
         }
@@ -96,7 +97,7 @@ fn send<R: Replies + Drop, W: Write + Drop>(server: &mut Option<(R, W)>, frames:
 }
 
 /// Reads the next reply. If no whole one comes, the connection is given up.
-fn receive<R: Replies + Drop, W: Write + Drop>(
+fn receive<R: Replies + Drop, W: Requests + Drop>(
     alloc: Global,
     server: &mut Option<(R, W)>,
 ) -> Result<Outcome, Stop>
@@ -117,7 +118,7 @@ fn receive<R: Replies + Drop, W: Write + Drop>(
 }
 
 /// What comes of a line.
-fn outcome_of<R: Replies + Drop, W: Write + Drop>(
+fn outcome_of<R: Replies + Drop, W: Requests + Drop>(
     alloc: Global,
     server: &mut Option<(R, W)>,
     asked: &Result<Request, BadLine>,
@@ -132,7 +133,7 @@ fn outcome_of<R: Replies + Drop, W: Write + Drop>(
 }
 
 /// Puts a line for each of these at the end of the text, and goes on with the status.
-fn tell_round<R: Replies + Drop, W: Write + Drop>(
+fn tell_round<R: Replies + Drop, W: Requests + Drop>(
     alloc: Global,
     server: &mut Option<(R, W)>,
     asked: &[Result<Request, BadLine>],
@@ -152,7 +153,7 @@ fn tell_round<R: Replies + Drop, W: Write + Drop>(
 }
 
 /// Asks what the lines of a round ask, and prints what comes of them. The round is empty then.
-pub(crate) fn answer_round<R: Replies + Drop, W: Write + Drop, O: Write>(
+pub(crate) fn answer_round<R: Replies + Drop, W: Requests + Drop, O: Write>(
     alloc: Global,
     server: &mut Option<(R, W)>,
     round: &mut Round,

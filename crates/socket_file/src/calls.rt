@@ -4,13 +4,14 @@ ghost use Rattle.socket_file.specs.Names.{room_of, inner_of};
 ghost use Rattle.socket_file.specs.declared.calls.Found.TheVariants.{Nothing, Socket};
 
 use crate::names::is_socket_path;
+use mio::net::UnixStream;
 use std::alloc::Global;
 use std::fs::{DirBuilder, File, Permissions, TryLockError};
 use std::io::ErrorKind;
 use std::net::Net;
 use std::os::fd::AsRawFd;
 use std::os::unix::fs::{DirBuilderExt, FileTypeExt, MetadataExt, PermissionsExt};
-use std::os::unix::net::{UnixListener, UnixStream};
+use std::os::unix::net::UnixListener;
 use std::rt::Files;
 use std::{fs, io};
 
@@ -170,10 +171,12 @@ impl<R: Files<File = File> + Net> SocketFiles for R {
         }
     }
 
+    /// It doesn't wait. Where a connection would have to, somebody listens whose backlog is full.
     fn is_listening(&self, _held: &File, path: &str) -> io::Result<bool> {
         match UnixStream::connect(self, path) {
             Ok(_) => Ok(true),
             Err(cause) if cause.kind() == ErrorKind::ConnectionRefused => Ok(false),
+            Err(cause) if cause.kind() == ErrorKind::WouldBlock => Ok(true),
             Err(cause) => Err(cause),
         }
     }
