@@ -2,7 +2,9 @@
 #![tactic(auto)]
 
 use call_text::{MISUSED, cannot_open, say};
-use map_server::dchm;
+use log::{LevelFilter, Logged};
+use map_server::{dchm, hold_streams};
+use record_queue::{AfterRecords, RecordQueue};
 use std::io::ErrorKind;
 use std::net::{TcpListener, TcpStream};
 use std::process::ExitCode;
@@ -19,6 +21,11 @@ fn given_words(rt: &HostRuntime) -> io::Result<Vec<String>> {
 
 fn main(rt: HostRuntime) -> io::Result<ExitCode> {
     let mut error = rt.stderr();
+    // The first file that is opened.
+    let streams = match hold_streams(&rt, &rt, rt.alloc(), &mut error) {
+        Ok(streams) => streams,
+        Err(status) => return Ok(ExitCode::from(status)),
+    };
     let words = match given_words(&rt) {
         Ok(words) => words,
         Err(cause) if cause.kind() == ErrorKind::InvalidData => {
@@ -34,15 +41,19 @@ fn main(rt: HostRuntime) -> io::Result<ExitCode> {
     let _listener: Option<TcpListener> = None;
     let _stream: Option<TcpStream> = None;
     let mut input = rt.reader();
-    let mut output = io::writer(&rt);
+    let records = RecordQueue::new(rt, rt.alloc(), error);
+    // The records of a server's start stand before it is said that it listens.
+    let mut output = AfterRecords::on_another(&records, io::writer(&rt));
     let status = dchm(
+        &Logged::new(rt, LevelFilter::Info, &records),
         &rt,
-        &rt,
+        &streams,
         rt.alloc(),
         &words,
         &mut input,
         &mut output,
-        &mut error,
+        &mut AfterRecords::on_their_stream(&records, error),
     );
+    records.settle();
     Ok(ExitCode::from(status))
 }

@@ -7,7 +7,7 @@ use Rattle.clap.specs.declared.error.kind.ErrorKind.TheVariants.{OutOfMemory}
 use Rattle.clap.proofs.OnLiterals.{clap_on_literals}
 use Rattle.disk_model.specs.Files.{Files}
 use Rattle.wire_frames.specs.declared.receiving.ReplyError.{ReplyError}
-use Rattle.cmd_call.specs.declared.servers.Place.{Place}
+use Rattle.cmd_call.specs.declared.servers.Server.{Server}
 use Rattle.map_server.specs.CommandLine.{faults, name_of, named_by, Advises, Asks, FindsNoMemory, Names}
 use Rattle.map_server.specs.Program.{Does, Ran, Serves}
 use Rattle.map_server.specs.declared.order.Order.{Order}
@@ -38,8 +38,8 @@ unfolding first_letter
 first_of_mem named letter text Given is mem = ap first_letter (sym (ap name_of is.1) ∙ mem)
 
 module _ {D R W L : Type 0} (states : D → List Files) (failures : D → ℕ) (honest : D → Type 0) (IsOpened IsCreated : Text → D → Type 0)
-    (IsRefused : Text → Error → Type 0) (Fails : Option (List ℕ) → Option (List ℕ) → ReplyError → Type 0) (remaining : R → Option (List ℕ)) (contents : W → Option (List ℕ)) (IsConnected : Place → R → W → Type 0)
-    (IsUnreachable : Place → Error → Type 0) (IsListener : Text → ℕ → L → Type 0) (words : List Text) where
+    (IsRefused : Text → Error → Type 0) (Fails : Option (List ℕ) → Option (List ℕ) → ReplyError → Type 0) (remaining : R → Option (List ℕ)) (contents : W → Option (List ℕ)) (IsConnected : Server → R → W → Type 0)
+    (IsUnreachable : Server → Error → Type 0) (IsListener : Text → ℕ → L → Type 0) (words : List Text) where
   serves_mem : (order : Order) (r0 r1 w0 w1 : Option (List ℕ)) (status : ℕ) → Asks (named_by words) order
       → Does states failures honest IsOpened IsCreated IsRefused Fails remaining contents IsConnected IsUnreachable IsListener order r0 r1 w0 w1 status
       → name_of (named_by words) ≡ Some (codes "mem") → Serves r0 r1 w0 w1 status

@@ -66,8 +66,8 @@ serve_line =
     (option_rule (codes "report-seconds"))) (flag_rule (codes "standby"))
 
 abbrev pub call_line : App
-call_line = with_rule (with_rule (with_rule (new_app (codes "call")) (option_rule (codes "port")))
-    (option_rule (codes "socket"))) words_rule
+call_line = with_rule (with_rule (with_rule (with_rule (new_app (codes "call")) (option_rule (codes "port")))
+    (option_rule (codes "socket"))) (option_rule (codes "timeout-ms"))) words_rule
 
 abbrev pub sim_line : App
 sim_line = with_rule (new_app (codes "sim")) file_rule
@@ -137,10 +137,12 @@ pub record GivesServer (rows : List Row) (words : ServerWords) : Type 0 where
   pub ahead : words.log_ahead.now ≡ word_or (codes "1048576") (codes "log-ahead") rows
   pub report : word_of words.report_seconds ≡ first_of (codes "report-seconds") rows
 
--- where the server of a call is; each of the two may be left out
+-- where the server of a call is, by a port or a path, each of which may be left out; and for how many milliseconds it
+-- is waited for, 10000 if that is left out
 pub record GivesPlace (rows : List Row) (at : PlaceWords) : Type 0 where
   pub port : word_of at.port ≡ first_of (codes "port") rows
   pub socket : word_of at.socket ≡ first_of (codes "socket") rows
+  pub timeout : at.timeout_ms.now ≡ word_or (codes "10000") (codes "timeout-ms") rows
 
 -- this subcommand is named, and its arguments are given so
 abbrev pub Names : Option (Text × List Row) → Text → (List Row → Type 0) → Type 0

@@ -11,7 +11,7 @@ use Rattle.map_server.specs.declared.order.Order.{Order}
 use Rattle.map_server.specs.declared.order.Order.TheVariants.{Mem, Init, Check, Serve, Call, Sim}
 use Rattle.wire_frames.specs.declared.receiving.ReplyError.{ReplyError}
 use Rattle.cmd_directory.specs.Directory.{Inits, Inspects}
-use Rattle.cmd_call.specs.declared.servers.Place.{Place}
+use Rattle.cmd_call.specs.declared.servers.Server.{Server}
 use Rattle.cmd_call.specs.Calling.{MakesCalls}
 use Rattle.cmd_serve.specs.Serving.{ServesOn}
 use Rattle.map_server.specs.Simulation.{Simulates}
@@ -33,14 +33,14 @@ Serves r0 r1 w0 w1 status = Dialogues r0 r1 w0 w1 status ⊎ ((r1 ≡ r0) × (w1
 -- Of the disks and the connections that the program is given it is told what the clauses of their types tell. IsOpened
 -- says that a disk has the files of a directory, as they were when it was opened. IsCreated says the same if those that
 -- were absent were made. IsRefused says that a directory couldn't be opened, for an error. IsConnected says that a
--- reader and a writer are the ends of a new connection to a place. IsUnreachable says that a connection to a place was
--- tried, and there was none, for an error. Fails says that reading a reply ended with an error. IsListener says that a
--- listener was bound at a path, and its file has these rights.
+-- reader and a writer are the ends of a new connection to a server. IsUnreachable says that a connection to a server
+-- was tried, and there was none, for an error. Fails says that reading a reply ended with an error. IsListener says
+-- that a listener was bound at a path, and its file has these rights.
 module _ {D R W L : Type 0} (states : D → List Files) (failures : D → ℕ) (honest : D → Type 0)
     (IsOpened IsCreated : Text → D → Type 0)
     (IsRefused : Text → Error → Type 0) (Fails : Option (List ℕ) → Option (List ℕ) → ReplyError → Type 0) (remaining : R
-    → Option (List ℕ)) (contents : W → Option (List ℕ)) (IsConnected : Place → R → W → Type 0)
-    (IsUnreachable : Place → Error → Type 0) (IsListener : Text → ℕ → L → Type 0) where
+    → Option (List ℕ)) (contents : W → Option (List ℕ)) (IsConnected : Server → R → W → Type 0)
+    (IsUnreachable : Server → Error → Type 0) (IsListener : Text → ℕ → L → Type 0) where
   -- what was asked for was done; but for `mem`, and the lines of calls, nothing was read
   abbrev pub Does : Order → Option (List ℕ) → Option (List ℕ) → Option (List ℕ) → Option (List ℕ) → ℕ → Type 0
   Does Mem r0 r1 w0 w1 status = Serves r0 r1 w0 w1 status

@@ -217,12 +217,19 @@ fn call_line<'a>(alloc: Global) -> Result<Command<'a>, AllocError>
         "PATH",
         "The path of the server's Unix socket, in place of --port",
     );
+    let timeout = option(
+        alloc,
+        "timeout-ms",
+        "N",
+        "For how many milliseconds the server is waited for: 10000 if left out",
+    );
     Command::new(alloc, "call")
         .about(
             "Makes one call of a server, or one for each line of standard input, and prints the replies",
         )
         .arg(server_port)?
         .arg(socket)?
+        .arg(timeout)?
         .arg(call_words(alloc))
 }
 

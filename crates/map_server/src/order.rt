@@ -48,6 +48,9 @@ const CONNECTIONS: &str = "10000";
 /// The length of the log that begins a checkpoint if no other is asked for.
 const BYTES: &str = "67108864";
 
+/// For how many milliseconds a server is waited for if no other number is asked for.
+const TIMEOUT: &str = "10000";
+
 /// The rights of the file of a server's Unix socket if no others are asked for: its user's alone.
 const MODE: &str = "600";
 
@@ -96,13 +99,14 @@ fn words_in<'a>(alloc: Global, matches: &ArgMatches<'a>) -> Result<Vec<&'a str>,
     Ok(words)
 }
 
-/// The words that say where a server is.
+/// The words that say where a server is, and for how long it is waited for.
 fn place_in<'a>(matches: &ArgMatches<'a>) -> PlaceWords<'a>
     ensures { GivesPlace (rows_of (found_of matches.now)) result }
 {
     PlaceWords {
         port: word_in(matches, "port"),
         socket: word_in(matches, "socket"),
+        timeout_ms: word_or(matches, "timeout-ms", TIMEOUT),
     }
 }
 

@@ -2,9 +2,11 @@
 ghost use Rattle.std.specs.Prelude.{◌≡◌, map, string_bytes};
 ghost use Rattle.clap.specs.Values.{kind_of};
 ghost use Rattle.map_server.specs.CommandLine.{Advises};
+ghost use Rattle.map_server.specs.Descriptors.{AreTaken};
 ghost use Rattle.map_server.specs.Program.{Ran, Serves};
 ghost use Rattle.socket_file.specs.Binding.{Binds};
 
+use crate::descriptors::{Descriptors, StandardStreams};
 use crate::host::Host;
 use crate::order::{Order, order_of};
 use crate::simulation::sim;
@@ -74,7 +76,8 @@ fn mem<T: Wait, R: Read, W: Write, E: Write>(
     }
 }
 
-/// The program over its words, the program's name first, and its streams: the exit status.
+/// The program over its words, the program's name first, and its streams: the exit status. No file that
+/// it opens gets the number of a standard stream.
 ///
 /// `mem` answers the request frames of `input` on `output`. The status is 0 if all went well. It is
 /// 1 with `unreadable` on `error` if the input or the output fails. It is 1 with `refused` and the
@@ -87,26 +90,29 @@ fn mem<T: Wait, R: Read, W: Write, E: Write>(
 /// it can't open the directory, listen, or start its threads.
 ///
 /// `call` makes one call of a server, and prints its reply on `output`. With `-` in place of a
-/// method it makes one for each line of `input`, and prints a line for each.
+/// method it makes one for each line of `input`, and prints a line for each. A server that doesn't
+/// answer in time gives no reply.
 ///
 /// `sim` plays the script of a file, and prints on `output` a line for each of its lines. The
 /// status is 1 with `unreadable` on `error` if the file can't be read. It is 2 with what is wrong
 /// on `error` if the file isn't UTF-8 or has a bad line; then nothing is played.
 pub fn dchm<
     T: Host,
-    M: Directories + Servers + SocketFiles<Listener = UnixListener>,
+    M: Descriptors + Directories + Servers + SocketFiles<Listener = UnixListener>,
     R: Read,
     W: Write,
     E: Write,
 >(
     rt: &T,
     machine: &M,
+    _streams: &StandardStreams<M>,
     alloc: Global,
     words: &[String],
     input: &mut R,
     output: &mut W,
     error: &mut E,
 ) -> u8
+    requires taken { AreTaken M.is_taken _streams.now.held.items }
     ensures { Ran M.Opened.states M.Opened.failures M.Opened.honest M.is_opened M.is_created
         M.is_refused M.Reader.fails M.Reader.remaining M.Writer.contents M.is_connected
         M.is_unreachable (Binds M.was_free M.is_private M.is_bound M.has_mode M.is_renamed)
