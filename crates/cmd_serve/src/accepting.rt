@@ -200,4 +200,8 @@ impl<R: Clock + Log + Wait> Arrivals for Acceptor<'_, R> {
         }
         None
     }
+
+    fn are_at_both(&self) -> bool {
+        self.entrances.len() > 1
+    }
 }

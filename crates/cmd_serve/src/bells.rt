@@ -50,6 +50,8 @@ pub struct Bell {
     awaited: AtomicU64,
     // how many clients the worker has, with those that were handed to it
     clients: AtomicUsize,
+    // the least number that one of its clients waited for at the end of its last round; 0 is for none
+    least: AtomicU64,
 }
 
 impl Bell {
@@ -59,6 +61,7 @@ impl Bell {
             waker: Waker::new(registry, WAKE)?,
             awaited: AtomicU64::new(0),
             clients: AtomicUsize::new(0),
+            least: AtomicU64::new(0),
         })
     }
 
@@ -76,6 +79,16 @@ impl Bell {
     pub(crate) fn client_came(&self) {
         let _ = self.clients.fetch_add(1, Ordering::SeqCst);
         self.ring();
+    }
+
+    /// The least number that a client of the worker waits for, if one does.
+    pub(crate) fn note_least(&self, number: Option<u64>) {
+        self.least.store(number.unwrap_or(0), Ordering::SeqCst);
+    }
+
+    /// The same, as it was last noted; 0 is for none.
+    pub(crate) fn least(&self) -> u64 {
+        self.least.load(Ordering::SeqCst)
     }
 
     /// A client of the worker is gone.

@@ -3,6 +3,7 @@ ghost use Rattle.std.specs.Prelude.{◌≤◌, length, IfOk};
 ghost use Rattle.cmd_serve.specs.Reading.{Fits};
 
 use crate::begun::Begun;
+use crate::closing::Closing;
 use crate::streams::Stream;
 use connections::Resting;
 use std::io;
@@ -24,7 +25,7 @@ pub(crate) enum Piece {
 #[derive(Drop)]
 pub(crate) struct Line {
     pub(crate) socket: Stream,
-    /// When the client last took a reply, or when it came, if that is of interest.
+    /// When the client last sent or took a byte, or when it came, if that is of interest.
     pub(crate) since: Option<Instant>,
     /// There may be bytes to be read.
     pub(crate) may_read: bool,
@@ -32,6 +33,8 @@ pub(crate) struct Line {
     pub(crate) has_closed: bool,
     /// The client takes no bytes for now.
     pub(crate) is_blocked: bool,
+    /// It took none when its time was up and it was tried again.
+    pub(crate) was_tried: bool,
 }
 
 impl Line {
@@ -42,17 +45,19 @@ impl Line {
             may_read: false,
             has_closed: false,
             is_blocked: false,
+            was_tried: false,
         }
     }
 
     /// Reads a piece, if there is one. A piece that doesn't fill the room is the last for now, unless
     /// the client sends no more: then the end stands behind it.
-    pub(crate) fn read(&mut self, room: &mut [u8]) -> Piece
+    pub(crate) fn read(&mut self, room: &mut [u8], now: Option<Instant>) -> Piece
         ensures { Fits result (length room.new) }
     {
         match self.socket.read(room) {
             Ok(0) => Piece::End,
             Ok(len) => {
+                self.since = now;
                 self.may_read = self.has_closed || len == room.len();
                 Piece::Bytes(len)
             }
@@ -79,6 +84,7 @@ impl Line {
                 Ok(len) => {
                     written += len;
                     self.since = now;
+                    self.was_tried = false;
                 }
                 Err(error) if error.kind() == ErrorKind::Interrupted => {}
                 Err(error) if error.kind() == ErrorKind::WouldBlock => {
@@ -92,16 +98,35 @@ impl Line {
     }
 }
 
+impl Line {
+    /// Ends the sending side.
+    pub(crate) fn end_sending(&self) -> io::Result<()> {
+        self.socket.end_sending()
+    }
+}
+
+/// What is to become of a client once its connection, whose calls wait or are answered elsewhere, is back.
+#[derive(Clone, Copy)]
+pub(crate) enum Fate {
+    /// It is served.
+    Stays,
+    /// The server ends its connection.
+    Ends,
+    /// It is gone, and is let go of.
+    Gone,
+}
+
 /// A client of a worker.
 #[derive(Drop)]
 pub(crate) struct Client {
     pub(crate) line: Line,
-    /// Its connection, unless its calls wait or it is answered elsewhere.
+    /// Its connection, unless its calls wait, or it is answered elsewhere, or is being closed.
     pub(crate) resting: Option<Resting<Begun>>,
+    /// Its connection, if that is being closed.
+    pub(crate) closing: Option<Closing>,
     /// It is among those that are to have their turn.
     pub(crate) is_queued: bool,
-    /// It is gone: it is let go of once its connection is back.
-    pub(crate) is_lost: bool,
+    pub(crate) fate: Fate,
 }
 
 impl Client {
@@ -109,8 +134,9 @@ impl Client {
         Client {
             line,
             resting: Some(resting),
+            closing: None,
             is_queued: false,
-            is_lost: false,
+            fate: Fate::Stays,
         }
     }
 
@@ -124,17 +150,6 @@ impl Client {
                 !connection.has_ended()
                     && connection.unsent().is_empty()
                     && (self.line.may_read || connection.has_message())
-            }
-        }
-    }
-
-    /// Whether it is over: a reply has ended its connection, and is taken.
-    pub(crate) fn is_over(&self) -> bool {
-        match &self.resting {
-            None => false,
-            Some(resting) => {
-                let connection = resting.connection();
-                connection.has_ended() && connection.unsent().is_empty()
             }
         }
     }

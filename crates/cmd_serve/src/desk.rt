@@ -2,8 +2,8 @@
 
 use crate::begun::Begun;
 use crate::bells::Bell;
-use crate::client::{Client, Line};
-use crate::errands::Errand;
+use crate::client::{Client, Fate, Line};
+use crate::errands::Errands;
 use crate::observer::Observer;
 use crate::pool::Pool;
 use crate::spares::Spares;
@@ -11,7 +11,7 @@ use crate::streams::Stream;
 use crate::tally::Tally;
 use crate::turns::{Turned, Turns};
 use connections::{Calls, Resting};
-use crossbeam_channel::{Receiver, Sender, TryRecvError};
+use crossbeam_channel::{Receiver, TryRecvError};
 use disk_model::Disk;
 use durable_map::DurableMap;
 use mio::{Events, Interest, Poll, Token};
@@ -30,9 +30,9 @@ pub struct Seat {
     pub(crate) poll: Poll,
     /// The connections that it is to serve.
     pub(crate) streams: Receiver<Stream, Global>,
-    /// Where it leaves its errands, and where they come back.
-    pub(crate) errands: Sender<Errand, Global>,
-    pub(crate) back: Receiver<Errand, Global>,
+    /// The errands of its clients that count, and of those that reduce and search.
+    pub(crate) counts: Errands,
+    pub(crate) folds: Errands,
 }
 
 /// The most sockets that one wait reports.
@@ -73,16 +73,15 @@ pub(crate) struct Desk<'a, D: Disk + Drop, R: Clock + Wait, C: Calls<Held = Begu
     pub(crate) clients: Slab<Client>,
     /// The clients that are to have their turn.
     pub(crate) queue: VecDeque<usize>,
-    /// The clients whose requests of the whole map are to be sent on an errand, and whether one is.
-    pub(crate) bulks: VecDeque<usize>,
-    pub(crate) has_errand: bool,
     /// No more connections come.
     pub(crate) has_ended: bool,
     /// Each connection that waits is to be looked at.
     pub(crate) must_look: bool,
     /// How often the worker has looked for more changes of the batch that is due.
     pub(crate) looks: u32,
-    /// For how long a client may be idle, and when it is to be looked who was.
+    /// How many of the clients have connections that are being closed.
+    pub(crate) closing: usize,
+    /// For how long a client may be idle, and when it is to be looked who was, or what is to be closed.
     pub(crate) limit: Option<Duration>,
     pub(crate) next_sweep: Option<Instant>,
 }
@@ -113,11 +112,10 @@ impl<'a, D: Disk + Drop, R: Clock + Wait, C: Calls<Held = Begun> + Drop> Desk<'a
             turns,
             clients: Slab::new(alloc),
             queue: VecDeque::new(alloc),
-            bulks: VecDeque::new(alloc),
-            has_errand: false,
             has_ended: false,
             must_look: false,
             looks: 0,
+            closing: 0,
             limit,
             next_sweep: None,
         }
@@ -125,10 +123,10 @@ impl<'a, D: Disk + Drop, R: Clock + Wait, C: Calls<Held = Begun> + Drop> Desk<'a
 
     /// The time, if it is of interest.
     pub(crate) fn now(&self) -> Option<Instant> {
-        match self.limit {
-            Some(_) => Instant::now(self.rt).ok(),
-            None => None,
+        if self.limit.is_none() && self.closing == 0 {
+            return None;
         }
+        Instant::now(self.rt).ok()
     }
 
     // ---- clients that come and go
@@ -179,31 +177,48 @@ impl<'a, D: Disk + Drop, R: Clock + Wait, C: Calls<Held = Begun> + Drop> Desk<'a
 
     /// Lets go of a client, whose connection is gone.
     pub(crate) fn remove(&mut self, key: usize) {
-        if self.clients.try_remove(key).is_some() {
-            self.count_out();
+        let Some(client) = self.clients.try_remove(key) else {
+            return;
+        };
+        if client.closing.is_some() {
+            self.closing = self.closing.saturating_sub(1);
         }
+        self.count_out();
     }
 
-    /// Lets go of a client, or does so once its connection is back.
+    /// Lets go of a client that is gone, or does so once its connection is back.
     pub(crate) fn lose(&mut self, key: usize) {
         let Some(client) = self.clients.get_mut(key) else {
             return;
         };
-        if client.resting.is_none() {
-            client.is_lost = true;
+        if client.resting.is_none() && client.closing.is_none() {
+            client.fate = Fate::Gone;
             self.must_look = true;
             return;
         }
         self.remove(key);
     }
 
+    /// Ends the connection of a client, or does so once it is back.
+    pub(crate) fn end(&mut self, key: usize) {
+        let Some(client) = self.clients.get_mut(key) else {
+            return;
+        };
+        match client.resting.take() {
+            Some(resting) => self.close(key, resting),
+            None => {
+                client.fate = Fate::Ends;
+                self.must_look = true;
+            }
+        }
+    }
+
     /// Tells how many clients there are, and how many connections hold calls, if that is of interest.
     pub(crate) fn tell(&self) {
         if let Some(tally) = self.tally {
-            let held = self
-                .turns
-                .len()
-                .saturating_add(usize::from(self.has_errand));
+            let out = usize::from(self.seat.counts.is_out())
+                + usize::from(self.seat.folds.is_out());
+            let held = self.turns.len().saturating_add(out);
             tally.note_clients(self.clients.len(), held);
         }
     }
@@ -223,23 +238,27 @@ impl<'a, D: Disk + Drop, R: Clock + Wait, C: Calls<Held = Begun> + Drop> Desk<'a
         }
     }
 
+    /// Takes back the connection of a client. It is ended if its last reply has.
+    pub(crate) fn rest(&mut self, key: usize, resting: Resting<Begun>) {
+        if resting.connection().has_ended() {
+            self.close(key, resting);
+            return;
+        }
+        let Some(client) = self.clients.get_mut(key) else {
+            return;
+        };
+        client.resting = Some(resting);
+        self.queue_up(key);
+    }
+
     /// What is done with a client after a turn of its connection.
     pub(crate) fn follow(&mut self, key: usize, turned: Turned) {
         match turned {
             Turned::Waits => {}
-            Turned::Ends => self.remove(key),
+            Turned::Gone => self.remove(key),
+            Turned::Ends(resting) => self.close(key, resting),
             Turned::AsksWholeMap(resting) => self.send_errand(key, resting),
-            Turned::Rests(resting) => {
-                let Some(client) = self.clients.get_mut(key) else {
-                    return;
-                };
-                client.resting = Some(resting);
-                if client.is_over() {
-                    self.remove(key);
-                } else {
-                    self.queue_up(key);
-                }
-            }
+            Turned::Rests(resting) => self.rest(key, resting),
         }
     }
 }

@@ -2,6 +2,7 @@
 
 use crate::begun::Begun;
 use crate::bells::{Chime, WAKE, ring_next};
+use crate::client::Fate;
 use crate::desk::Desk;
 use connections::Calls;
 use disk_model::Disk;
@@ -66,13 +67,21 @@ impl<'a, D: Disk + Drop, R: Clock + Wait, C: Calls<Held = Begun> + Drop> Desk<'a
         let Some(key) = self.turns.front() else {
             return;
         };
-        match self.clients.get_mut(key) {
-            Some(client) if !client.is_lost => {
+        let Some(client) = self.clients.get_mut(key) else {
+            let _ = self.turns.give_up_front();
+            return;
+        };
+        match client.fate {
+            Fate::Stays => {
                 let turned = self.turns.resume_front(&mut client.line, now);
                 self.follow(key, turned);
             }
-            _ => {
-                self.turns.give_up_front();
+            Fate::Ends => {
+                let left = self.turns.give_up_front();
+                self.close_left(key, left);
+            }
+            Fate::Gone => {
+                let _ = self.turns.give_up_front();
                 self.remove(key);
             }
         }
@@ -117,8 +126,15 @@ impl<'a, D: Disk + Drop, R: Clock + Wait, C: Calls<Held = Begun> + Drop> Desk<'a
         if event.is_read_closed() {
             client.line.has_closed = true;
         }
-        if event.is_writable() && client.line.is_blocked {
+        let was_blocked = client.line.is_blocked;
+        if event.is_writable() {
             client.line.is_blocked = false;
+        }
+        if client.closing.is_some() {
+            self.go_on_closing(key);
+            return;
+        }
+        if event.is_writable() && was_blocked {
             if client.resting.is_some() {
                 self.resume(key, now);
                 return;
@@ -169,9 +185,13 @@ impl<'a, D: Disk + Drop, R: Clock + Wait, C: Calls<Held = Begun> + Drop> Desk<'a
         }
     }
 
-    /// Whether each client waits, so that nothing else can be done.
+    /// Whether each client waits for what is to be committed, so that nothing else can be done. One that
+    /// is to take replies first, or whose connection is being closed, may do so at any time.
     fn must_wait(&self) -> bool {
-        !self.must_look && self.queue.is_empty() && self.turns.len() == self.clients.len()
+        !self.must_look
+            && self.queue.is_empty()
+            && !self.turns.has_unsent()
+            && self.turns.len() == self.clients.len()
     }
 
     /// Makes the turns of the log until what is awaited first is durable. It says whether there was
@@ -192,6 +212,7 @@ impl<'a, D: Disk + Drop, R: Clock + Wait, C: Calls<Held = Begun> + Drop> Desk<'a
     /// clients are expected whose changes share the batch, it looks for them first.
     fn commit(&mut self) {
         let looks = mem::take(&mut self.looks);
+        self.bell.note_least(self.turns.first());
         let Some(first) = self.turns.first() else {
             return;
         };

@@ -16,39 +16,75 @@ impl<'a, D: Disk + Drop, R: Clock + Wait, C: Calls<Held = Begun> + Drop> Desk<'a
         }
     }
 
-    /// Lets go of a client that was idle for too long. Else it returns when its time is up.
+    /// At this time it is to be looked whose time is up, if not before.
+    pub(crate) fn sweep_at(&mut self, deadline: Instant) {
+        let planned = self.next_sweep;
+        self.next_sweep = match planned {
+            Some(next) if next <= deadline => planned,
+            _ => Some(deadline),
+        };
+    }
+
+    /// Ends the connection of a client that was idle for too long, or closes one whose time is up. Else it
+    /// returns when it is.
     fn sweep_one(&mut self, key: usize, now: Instant) -> Option<Instant> {
         let client = self.clients.get_mut(key)?;
+        if let Some(closing) = &client.closing {
+            let until = closing.until;
+            if now < until {
+                return Some(until);
+            }
+            self.remove(key);
+            return None;
+        }
         if client.resting.is_none() && !client.line.is_blocked {
             client.line.since = Some(now);
+            client.line.was_tried = false;
         }
         let since = client.line.since.unwrap_or(now);
         client.line.since = Some(since);
-        let deadline = self.deadline(Some(since))?;
+        let deadline = since.checked_add(self.limit?)?;
         if now < deadline {
             return Some(deadline);
         }
-        self.lose(key);
+        if client.line.is_blocked && !client.line.was_tried {
+            self.try_again(key, now);
+            return Some(now);
+        }
+        self.end(key);
         None
     }
 
-    /// Lets go of the clients that were idle for too long, if it is time to look.
+    /// Has what is unsent of a client written, as far as it goes. The system tells late that a client has
+    /// taken bytes: only once much of what it holds is taken.
+    fn try_again(&mut self, key: usize, now: Instant) {
+        let Some(client) = self.clients.get_mut(key) else {
+            return;
+        };
+        client.line.was_tried = true;
+        client.line.is_blocked = false;
+        if client.resting.is_some() {
+            self.resume(key, Some(now));
+        } else {
+            self.must_look = true;
+        }
+    }
+
+    /// Ends the connections of the clients that were idle for too long, and closes those whose time is up,
+    /// if it is time to look.
     pub(crate) fn sweep(&mut self) {
         let (Some(next), Some(now)) = (self.next_sweep, self.now()) else {
+            self.next_sweep = None;
             return;
         };
         if now < next {
             return;
         }
-        let mut first: Option<Instant> = None;
+        self.next_sweep = None;
         for key in 0..self.clients.capacity() {
             if let Some(deadline) = self.sweep_one(key, now) {
-                first = match first {
-                    Some(other) if other <= deadline => Some(other),
-                    _ => Some(deadline),
-                };
+                self.sweep_at(deadline);
             }
         }
-        self.next_sweep = first;
     }
 }

@@ -7,6 +7,7 @@ pub mod begun;
 pub mod bells;
 mod bulk;
 mod client;
+mod closing;
 pub mod desk;
 pub mod errands;
 mod event_loop;
@@ -27,6 +28,7 @@ mod spares;
 pub mod streams;
 pub mod tally;
 mod turns;
+mod watching;
 pub mod worker;
 
 pub use begun::Begun;

@@ -7,7 +7,7 @@ ghost use Rattle.recovery.specs.Opening.{IsNotOpened, OpensWith};
 ghost use Rattle.cmd_serve.specs.Opening.{HasFound, IsNotOpenedNewest, IsOpenedNewest};
 
 use atomic_methods::Part;
-use cmd_directory::Directories;
+use cmd_directory::{Directories, create_directory};
 use disk_model::Disk;
 use durable_map::DurableMap;
 use flusher::Keeper;
@@ -28,8 +28,9 @@ use store_layout::NEW_VERSION;
 /// milliseconds.
 const LOCK_PAUSE: u64 = 250;
 
-/// Opens the directory, whose absent files are made. A server that stands by tries again as long as
-/// another holds one of its locks, and one record says that it waits.
+/// Opens the directory, whose absent files are made. If another process has one of its locks, that is tried
+/// again for a second. A server that stands by tries for ever, and one record says that it waits. Until it
+/// has the lock of the directory it opens none of the four files.
 pub(crate) fn open_directory<M: Directories, R: Clock + Log + Wait>(
     rt: &R,
     machine: &M,
@@ -42,13 +43,16 @@ pub(crate) fn open_directory<M: Directories, R: Clock + Log + Wait>(
     ensures waits { stands_by ≡ true
         → IfErr result (λ cause. error_kind cause ≢ ErrorKind.WouldBlock) }
 {
+    if !stands_by {
+        return create_directory(rt, machine, alloc, directory);
+    }
     let mut has_said = false;
     for _turn in rt.forever() {
         let cause = match machine.create_files(alloc, directory) {
             Ok(disk) => return Ok(disk),
             Err(cause) => cause,
         };
-        if !stands_by || cause.kind() != ErrorKind::WouldBlock {
+        if cause.kind() != ErrorKind::WouldBlock {
             return Err(cause);
         }
         if !has_said {

@@ -17,6 +17,7 @@ use durable_map::DurableMap;
 use log::{Log, warn};
 use map_types::Refusal;
 use std::alloc::Global;
+use std::collections::VecDeque;
 use std::sync::Wait;
 use std::sync::atomic::{AtomicUsize, Ordering};
 use std::thread;
@@ -26,10 +27,24 @@ use std::time::Clock;
 /// How many clients a worker gets before the next one gets any.
 const SHARE: usize = 8;
 
+/// How many places are kept for a Unix socket beside a port, and of how many one each. So its users still
+/// reach a server whose other places are taken.
+const MOST_KEPT: usize = 4;
+
+const KEPT_OF: usize = 8;
+
+/// How many connections for which there was no place are kept.
+const MOST_TURNED_AWAY: usize = 64;
+
 /// Where connections come from.
 pub trait Arrivals {
     /// The next connection, or nothing if no more come.
     fn next(&mut self) -> Option<Stream>;
+
+    /// Whether they come at a port and at a Unix socket too. Then some places are kept for the latter.
+    fn are_at_both(&self) -> bool {
+        false
+    }
 }
 
 /// What the threads of the workers share.
@@ -56,11 +71,11 @@ enum Job {
 }
 
 impl Job {
-    /// The number of its worker. The last one answers the requests of the whole map.
+    /// The number of its worker. The last two answer the requests of the whole map.
     fn place(&self) -> usize {
         match self {
             Job::Serve(seat, _) => seat.place,
-            Job::Answer(office) => office.ways_back.len(),
+            Job::Answer(office) => office.place,
         }
     }
 }
@@ -106,13 +121,21 @@ fn work<D: Disk + Drop, O: Observer, R: Clock + Wait>(rt: &R, pool: &Pool<'_, D,
     }
 }
 
-/// Whether one more client may be served. The log has one record for as long as none may.
+/// How many clients may be served before this one comes, of whom some may come at a Unix socket alone.
+fn most_beside(most: usize, is_at_both: bool, stream: &Stream) -> usize {
+    match stream {
+        Stream::Port(_) if is_at_both => most.saturating_sub(MOST_KEPT.min(most / KEPT_OF)),
+        Stream::Port(_) | Stream::Socket(_) => most,
+    }
+}
+
+/// Whether one more client may be served beside so many. The log has one record for as long as none may.
 fn has_room<D: Disk + Drop, O: Observer, L: Log>(
     rt: &L,
     pool: &Pool<'_, D, O>,
+    most: usize,
     has_said: &mut bool,
 ) -> bool {
-    let most = pool.most;
     if pool.open.load(Ordering::SeqCst) < most {
         *has_said = false;
         return true;
@@ -130,8 +153,18 @@ fn share_of<O: Observer>(observer: &O) -> usize {
     if observer.may_hold_up() { 1 } else { SHARE }
 }
 
-/// Hands each connection to a worker. One above the limit is closed at once.
-fn hand_out<D: Disk + Drop, O: Observer, C: Arrivals, R: Log + Wait>(
+/// Ends a connection for which there is no place. The last ones are kept, so that their clients find the
+/// end: a socket that is closed with unread input resets.
+fn turn_away(turned_away: &mut VecDeque<Stream>, stream: Stream) {
+    let _ = stream.end_sending();
+    if turned_away.len() >= MOST_TURNED_AWAY {
+        let _ = turned_away.pop_front();
+    }
+    let _ = turned_away.push_back(stream);
+}
+
+/// Hands each connection to a worker. One above the limit is ended at once.
+fn hand_out<D: Disk + Drop, O: Observer, C: Arrivals, R: Clock + Log + Wait>(
     rt: &R,
     pool: &Pool<'_, D, O>,
     doors: &mut Doors,
@@ -139,15 +172,20 @@ fn hand_out<D: Disk + Drop, O: Observer, C: Arrivals, R: Log + Wait>(
 ) {
     let share = share_of(pool.observer);
     let mut has_said = false;
+    let mut turned_away = VecDeque::new(pool.alloc);
     for _ in rt.forever() {
         let Some(stream) = arrivals.next() else {
             return;
         };
-        if has_room(rt, pool, &mut has_said) {
-            let _ = pool.open.fetch_add(1, Ordering::SeqCst);
-            if !doors.hand_in(rt, pool.bells, share, stream) {
-                return;
-            }
+        let most = most_beside(pool.most, arrivals.are_at_both(), &stream);
+        if !has_room(rt, pool, most, &mut has_said) {
+            turn_away(&mut turned_away, stream);
+            continue;
+        }
+        turned_away.clear();
+        let _ = pool.open.fetch_add(1, Ordering::SeqCst);
+        if !doors.hand_in(rt, pool.bells, share, stream) {
+            return;
         }
     }
     unreachable!()
@@ -164,14 +202,15 @@ fn employ<
 {
     let Furniture {
         seats,
-        office,
+        counts,
+        folds,
         doors,
     } = furniture;
     let mut doors = doors;
     let has_started = thread::scope(thread::scope_env(), rt, |scope| {
-        let mut has_started = scope
-            .spawn(move || work(rt, pool, Job::Answer(office)))
-            .is_ok();
+        let counting = scope.spawn(move || work(rt, pool, Job::Answer(counts)));
+        let folding = scope.spawn(move || work(rt, pool, Job::Answer(folds)));
+        let mut has_started = counting.is_ok() && folding.is_ok();
         for (seat, stock) in seats {
             if has_started {
                 has_started = scope
@@ -193,10 +232,11 @@ fn employ<
 }
 
 /// Serves the connections with a worker at each seat, and returns once no more come and each that came
-/// has ended. Each worker takes one pass as it starts, and serves all its connections with it; one
-/// thread more, with a pass of its own, answers the requests of the whole map. A connection ends if its
-/// client is idle for as long as the service says, that is, sends no whole request and takes no reply.
-/// One that comes while as many are served as the service allows is closed at once. Refused with
+/// has ended. Each worker takes one pass as it starts, and serves all its connections with it. Two threads
+/// more, each with a pass of its own, answer the requests of the whole map: one counts, and one reduces
+/// and searches. A connection ends if its client is idle for as long as the service says, that is, sends
+/// no byte and takes none.
+/// One that comes while as many are served as the service allows is ended at once. Refused with
 /// `NoMemory` if a thread can't be started.
 pub fn workers<
     D: Disk + Drop + Send,

@@ -2,18 +2,28 @@
 
 use crate::bells::Bell;
 use crate::desk::{Seat, Stock};
-use crate::errands::{Errand, Office};
+use crate::errands::{Errand, Errands, Office};
 use crate::streams::Stream;
 use crossbeam_channel::{Sender, bounded};
 use log::{Log, warn};
 use mio::Poll;
 use std::alloc::{AllocError, Global};
-use std::io;
 use std::net::Net;
 use std::sync::Wait;
+use std::time::{Clock, Duration};
+use std::{io, thread};
 
 /// How many connections wait for a worker at most.
 const MOST_WAITING: usize = 64;
+
+/// While others wait, for how many times as long as a reduction or a search took its thread rests. With
+/// 16 stripes a key's is held for less than one percent of the time then.
+const FOLDS_REST: u32 = 7;
+
+/// How often, and after how many microseconds each, it is looked whether a worker is held up.
+const MOST_LOOKS: u32 = 50;
+
+const LOOK_PAUSE: u64 = 100;
 
 /// Where connections are handed to the workers.
 #[derive(Drop)]
@@ -24,21 +34,48 @@ pub struct Doors {
 }
 
 /// The place of the first worker that has fewer clients than this share. If none has, it is that of one
-/// that has the fewest.
-fn least_busy(bells: &[Bell], share: usize) -> usize {
+/// that has the fewest. If only the free ones are asked for, it is of those that wait for nothing, or the
+/// first if none is.
+fn least_busy(bells: &[Bell], share: usize, is_free: bool) -> usize {
     let mut found = 0;
     let mut fewest = usize::MAX;
     for (place, bell) in bells.iter().enumerate() {
         let clients = bell.clients();
+        if clients >= fewest || (is_free && bell.least() != 0) {
+            continue;
+        }
         if clients < share {
             return place;
         }
-        if clients < fewest {
-            found = place;
-            fewest = clients;
-        }
+        found = place;
+        fewest = clients;
     }
     found
+}
+
+/// Whether the worker at this place waits for nothing, or goes on with what it waits for. A device that
+/// doesn't answer holds it up, and a new client would wait there too.
+fn goes_on<R: Clock>(rt: &R, bells: &[Bell], place: usize) -> bool {
+    let Some(bell) = bells.get(place) else {
+        return false;
+    };
+    let least = bell.least();
+    for _ in 0..MOST_LOOKS {
+        if bell.least() != least || least == 0 {
+            return true;
+        }
+        thread::sleep(rt, Duration::from_micros(LOOK_PAUSE));
+    }
+    false
+}
+
+/// The place of the worker that gets the next client.
+fn next_place<R: Clock>(rt: &R, bells: &[Bell], share: usize) -> usize {
+    let place = least_busy(bells, share, false);
+    if goes_on(rt, bells, place) {
+        return place;
+    }
+    least_busy(bells, share, true)
 }
 
 impl Doors {
@@ -103,14 +140,14 @@ impl Doors {
     /// that has the fewest gets it. A worker that has no place for it, since it is held up, or that could
     /// not start, is passed over; if none has a place, it waits for one. It says whether some worker took
     /// it.
-    pub(crate) fn hand_in<R: Wait>(
+    pub(crate) fn hand_in<R: Clock + Wait>(
         &mut self,
         rt: &R,
         bells: &[Bell],
         share: usize,
         stream: Stream,
     ) -> bool {
-        self.turn = least_busy(bells, share);
+        self.turn = next_place(rt, bells, share);
         let mut offered = match self.offer_all(rt, bells, stream) {
             Ok(()) => return true,
             Err(back) => back,
@@ -137,30 +174,58 @@ impl Doors {
 #[derive(Drop)]
 pub struct Furniture {
     pub(crate) seats: Vec<(Seat, Stock)>,
-    pub(crate) office: Office,
+    /// The office that counts, and the one that reduces and searches.
+    pub(crate) counts: Office,
+    pub(crate) folds: Office,
     pub(crate) doors: Doors,
 }
 
+/// The way of the errands of one kind from all workers to their office.
+type Way = Sender<Errand, Global>;
+
+/// The errands of one more worker to an office.
+fn errands_to(alloc: Global, way: &Way, office: &mut Office) -> Result<Errands, AllocError> {
+    let (way_back, back) = bounded(alloc, 1)?;
+    office.ways_back.push(way_back)?;
+    Ok(Errands::new(alloc, way.clone()?, back))
+}
+
+/// An office for so many workers, whose thread has this number and rests so, and the way there.
+fn office_of(
+    alloc: Global,
+    count: usize,
+    place: usize,
+    rest: u32,
+) -> Result<(Way, Office), AllocError> {
+    let (way, errands) = bounded(alloc, count)?;
+    let office = Office {
+        place,
+        rest,
+        errands,
+        ways_back: Vec::new(alloc),
+    };
+    Ok((way, office))
+}
+
 impl Furniture {
-    /// Adds a seat with what it waits with. The errands of its worker come by this sender.
+    /// Adds a seat with what it waits with. The errands of its worker go these ways.
     fn add(
         &mut self,
         alloc: Global,
         poll: Poll,
-        errands: &Sender<Errand, Global>,
+        counts: &Way,
+        folds: &Way,
     ) -> Result<(), AllocError> {
         let (door, streams) = bounded(alloc, MOST_WAITING)?;
-        let (way_back, back) = bounded(alloc, 1)?;
         let seat = Seat {
             place: self.seats.len(),
             poll,
             streams,
-            errands: errands.clone()?,
-            back,
+            counts: errands_to(alloc, counts, &mut self.counts)?,
+            folds: errands_to(alloc, folds, &mut self.folds)?,
         };
         self.seats.push((seat, Stock::new(alloc)?))?;
         self.doors.senders.push(door)?;
-        self.office.ways_back.push(way_back)?;
         Ok(())
     }
 }
@@ -173,31 +238,34 @@ fn poll_and_bell<R: Net>(rt: &R) -> io::Result<(Poll, Bell)> {
 }
 
 /// Seats for so many workers, with the memory that they need to start, and their bells. If the system
-/// refuses what one waits with, there are no more, and the log has a record of it.
+/// refuses what one waits with, there are no more, and the log has a record of it. It fails if not even
+/// one can be had.
 pub fn furnish<R: Log + Net>(
     rt: &R,
     alloc: Global,
     count: usize,
-) -> Result<(Furniture, Vec<Bell>), AllocError> {
-    let (sender, errands) = bounded(alloc, count)?;
+) -> io::Result<(Furniture, Vec<Bell>)> {
+    let (to_counts, counts) = office_of(alloc, count, count, 0)?;
+    let (to_folds, folds) = office_of(alloc, count, count.saturating_add(1), FOLDS_REST)?;
     let mut furniture = Furniture {
         seats: Vec::new(alloc),
-        office: Office {
-            errands,
-            ways_back: Vec::new(alloc),
-        },
+        counts,
+        folds,
         doors: Doors {
             senders: Vec::new(alloc),
             turn: 0,
         },
     };
     let mut bells = Vec::new(alloc);
+    // Descriptors that the connections need are left free.
+    let _reserve = (Poll::new(rt)?, Poll::new(rt)?);
     for made in 0..count {
         match poll_and_bell(rt) {
             Ok((poll, bell)) => {
-                furniture.add(alloc, poll, &sender)?;
+                furniture.add(alloc, poll, &to_counts, &to_folds)?;
                 bells.push(bell)?;
             }
+            Err(cause) if made == 0 => return Err(cause),
             Err(cause) => {
                 warn!(rt; "no more than {made} workers can be had: {cause}");
                 break;

@@ -12,7 +12,8 @@ use crate::figures::Figures;
 use crate::listening::{Listeners, lines_of, listen};
 use crate::opening::{find, open_directory, open_map};
 use crate::reporting::Reporter;
-use crate::service::{Service, serve_map};
+use crate::seats::furnish;
+use crate::service::{Service, serve_seated};
 use crate::settings::{ServerWords, Settings, settings_named};
 use call_text::{MISUSED, break_off, cannot_open, refuse, say};
 use cmd_directory::Directories;
@@ -31,6 +32,9 @@ use std::sync::atomic::AtomicUsize;
 use std::thread::Threads;
 use std::time::Clock;
 use wire_frames::write_whole;
+
+/// How many threads answer requests of the whole map.
+const OFFICES: usize = 2;
 
 /// Says by the lines on `output` that the server listens.
 fn announce<W: Write>(lines: &str, output: &mut W) -> io::Result<()>
@@ -76,18 +80,25 @@ fn host<
             return cannot_open(alloc, &cause, error);
         }
     };
+    let (furniture, bells) = match furnish(rt, alloc, service.workers) {
+        Ok(furnished) => furnished,
+        Err(cause) => {
+            error!(rt; "no worker can be had: {cause}");
+            return cannot_open(alloc, &cause, error);
+        }
+    };
     if let Err(cause) = announce(lines.as_str(), output) {
         error!(rt; "standard output failed: {cause}");
         return break_off(error);
     }
-    match serve_map(rt, service, reporter, &mut acceptor) {
+    match serve_seated(rt, service, reporter, furniture, bells, &mut acceptor) {
         Ok(()) => break_off(error),
         Err(refusal) => refuse(alloc, refusal, error),
     }
 }
 
 /// What writes the records of a server of the directory, whose map begins with so many commands.
-/// One of its threads takes up the requests of the whole map, beside the workers.
+/// Two of its threads take up the requests of the whole map, beside the workers.
 fn reporter_of<'a, R: Clock>(
     rt: &R,
     alloc: Global,
@@ -97,7 +108,7 @@ fn reporter_of<'a, R: Clock>(
 ) -> Result<Reporter<'a>, AllocError>
     ensures { IfOk result (λ reporter. reporter.seconds ≡ settings.now.report_seconds) }
 {
-    let threads = settings.workers.saturating_add(1);
+    let threads = settings.workers.saturating_add(OFFICES);
     Reporter::new(
         rt,
         alloc,

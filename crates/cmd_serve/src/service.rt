@@ -5,7 +5,8 @@ use crate::bells::{Bell, ring_next};
 use crate::figures::Figures;
 use crate::observer::Observer;
 use crate::pool::{Arrivals, workers};
-use crate::seats::furnish;
+use crate::seats::{Furniture, furnish};
+use crate::watching::watch_device;
 use disk_model::{Disk, FirstError};
 use durable_map::{DurableMap, Ends, SealedCheckpoint, checkpoint_loop, flush_loop};
 use log::{Log, error};
@@ -112,20 +113,25 @@ impl<'a, D: Disk + Drop, O: Observer, R> Ending<'a, D, O, R> {
     }
 }
 
-/// Runs the two loops of the map on threads of their own and serves the connections with its workers,
-/// until no more come. The observer is told of what they do, and watches on one thread more, if it is to.
-/// If the store fails, one Error record says so. Refused with `NoMemory` if a thread can't be started.
-pub fn serve_map<
+/// Runs the two loops of the map on threads of their own and serves the connections with workers at these
+/// seats, until no more come. One thread more watches the calls of the device. The observer is told of
+/// what they do, and watches on another thread, if it is to. If the store fails, one Error record says so.
+/// Refused with `NoMemory` if a thread can't be started.
+pub(crate) fn serve_seated<
     D: Disk + Drop + Send,
     O: Observer + Sync,
     C: Arrivals,
     R: Clock + Figures + Log + Net + Threads + Wait + Sync,
->(rt: &R, service: &Service<'_, D>, observer: &O, arrivals: &mut C) -> Result<(), Refusal>
+>(
+    rt: &R,
+    service: &Service<'_, D>,
+    observer: &O,
+    furniture: Furniture,
+    bells: Vec<Bell>,
+    arrivals: &mut C,
+) -> Result<(), Refusal>
     ensures { IfErr result (λ refusal. refusal ≡ Refusal.NoMemory) }
 {
-    let Ok((furniture, bells)) = furnish(rt, service.alloc, service.workers) else {
-        return Err(Refusal::NoMemory);
-    };
     let bells = bells.as_slice();
     let ending = &Ending::new(rt, service.map, observer, bells);
     let has_started = thread::scope(thread::scope_env(), rt, |scope| {
@@ -137,7 +143,8 @@ pub fn serve_map<
             let ended = checkpoint_loop(rt, service.map, service.checkpoint_bytes, ending);
             ending.tell(rt, service.first_error, ended);
         });
-        let mut has_started = flusher.is_ok() && checkpointer.is_ok();
+        let guard = scope.spawn(move || watch_device(rt, service.first_error, ending));
+        let mut has_started = flusher.is_ok() && checkpointer.is_ok() && guard.is_ok();
         if has_started && observer.watches() {
             let watcher = scope.spawn(move || observer.watch(
                 rt,
@@ -157,5 +164,23 @@ pub fn serve_map<
         Ok(())
     } else {
         Err(Refusal::NoMemory)
+    }
+}
+
+/// Furnishes the seats that the service says, and serves the map with them. Refused with `NoMemory` if
+/// not one seat can be had, or a thread can't be started.
+pub fn serve_map<
+    D: Disk + Drop + Send,
+    O: Observer + Sync,
+    C: Arrivals,
+    R: Clock + Figures + Log + Net + Threads + Wait + Sync,
+>(rt: &R, service: &Service<'_, D>, observer: &O, arrivals: &mut C) -> Result<(), Refusal>
+    ensures { IfErr result (λ refusal. refusal ≡ Refusal.NoMemory) }
+{
+    match furnish(rt, service.alloc, service.workers) {
+        Ok((furniture, bells)) => {
+            serve_seated(rt, service, observer, furniture, bells, arrivals)
+        }
+        Err(_) => Err(Refusal::NoMemory),
     }
 }

@@ -3,14 +3,27 @@ ghost use Rattle.std.specs.Prelude.{◌≡◌};
 
 use crate::begun::Begun;
 use crate::client::{Line, Piece};
+use crate::closing::Closing;
 use connections::{Buffer, Connection, Resting, Row};
 use std::alloc::{AllocError, Global};
+use std::time::Instant;
 
 /// The most bytes that one read takes.
 const PIECE: usize = 65536;
 
 /// The most rows that are kept while no connection has them.
 const MOST_ROWS: usize = 256;
+
+/// What came of a read.
+#[derive(Clone, Copy)]
+pub(crate) enum Received {
+    /// What there was is taken.
+    Taken,
+    /// The client sends no more, or the socket failed.
+    End,
+    /// No memory was found for the piece.
+    NoMemory,
+}
 
 /// The rows that no connection has, the buffer of what is written, and the room of what is read.
 #[derive(Drop)]
@@ -31,14 +44,26 @@ impl Spares {
         })
     }
 
-    /// Reads a piece of what the client of a connection sends, if there is one. It says whether more may
-    /// come: it is the end too if no memory is found for the piece.
-    pub(crate) fn read(&mut self, resting: &mut Resting<Begun>, line: &mut Line) -> bool {
-        match line.read(&mut self.room) {
-            Piece::Bytes(len) => resting.receive(&self.room[..len]).is_ok(),
-            Piece::Nothing => true,
-            Piece::End => false,
+    /// Reads a piece of what the client of a connection sends, if there is one.
+    pub(crate) fn read(
+        &mut self,
+        resting: &mut Resting<Begun>,
+        line: &mut Line,
+        now: Option<Instant>,
+    ) -> Received {
+        match line.read(&mut self.room, now) {
+            Piece::Bytes(len) => match resting.receive(&self.room[..len]) {
+                Ok(()) => Received::Taken,
+                Err(_) => Received::NoMemory,
+            },
+            Piece::Nothing => Received::Taken,
+            Piece::End => Received::End,
         }
+    }
+
+    /// Goes on with a connection that is being closed. It says whether that is to go on.
+    pub(crate) fn close(&mut self, closing: &mut Closing, line: &mut Line) -> bool {
+        closing.go_on(line, &mut self.room)
     }
 
     /// Lends a row to a connection. It says whether memory was found for one.

@@ -3,6 +3,7 @@
 use mio::event::Source;
 use mio::{Interest, Registry, Token};
 use std::io::{Read, Write};
+use std::net::Shutdown;
 use std::os::unix;
 use std::{io, net};
 
@@ -27,6 +28,14 @@ impl Stream {
     pub fn of_socket(stream: unix::net::UnixStream) -> io::Result<Stream> {
         stream.set_nonblocking(true)?;
         Ok(Stream::Socket(mio::net::UnixStream::from_std(stream)))
+    }
+
+    /// Ends the sending side: the peer finds the end after what was written.
+    pub(crate) fn end_sending(&self) -> io::Result<()> {
+        match self {
+            Stream::Port(stream) => stream.shutdown(Shutdown::Write),
+            Stream::Socket(stream) => stream.shutdown(Shutdown::Write),
+        }
     }
 }
 

@@ -4,7 +4,8 @@ ghost use Rattle.connections.specs.Owning.{OwnsRow, StillOwns};
 
 use crate::begun::Begun;
 use crate::client::Line;
-use crate::spares::Spares;
+use crate::closing::Closing;
+use crate::spares::{Received, Spares};
 use connections::{Answered, Calls, Connection, Resting};
 use std::alloc::Global;
 use std::collections::VecDeque;
@@ -20,8 +21,21 @@ pub(crate) enum Turned {
     AsksWholeMap(Resting<Begun>),
     /// Its calls wait.
     Waits,
-    /// It is over.
-    Ends,
+    /// The server ends it. What is unsent of it is to be written still.
+    Ends(Resting<Begun>),
+    /// Its client is gone.
+    Gone,
+}
+
+/// How a connection stands once what need not wait is answered.
+#[derive(Clone, Copy)]
+enum Exchanged {
+    /// It goes on.
+    GoesOn,
+    /// No memory was found for a reply, and what was gathered before it is written or unsent.
+    BreaksOff,
+    /// Its client is gone.
+    Gone,
 }
 
 /// A connection whose calls wait, and the key of its client.
@@ -39,6 +53,8 @@ pub(crate) struct Turns<C: Calls<Held = Begun> + Drop> {
     spares: Spares,
     // the least number that one of them waits for
     first: Option<u64>,
+    // one of them has replies that its client doesn't take
+    has_unsent: bool,
 }
 
 impl<C: Calls<Held = Begun> + Drop> Model for Turns<C> {
@@ -69,36 +85,43 @@ fn send(connection: &mut Connection<Begun>, line: &mut Line, now: Option<Instant
     }
 }
 
-/// Answers the calls that need not wait, and writes the replies, as far as the client takes them. It
-/// says whether the connection goes on.
+/// Answers the calls that need not wait, and writes the replies, as far as the client takes them.
 fn exchange<C: Calls<Held = Begun>>(
     calls: &mut C,
     connection: &mut Connection<Begun>,
     line: &mut Line,
     now: Option<Instant>,
-) -> bool
+) -> Exchanged
     requires owned { OwnsRow C.owns calls.old connection.old.row.items }
     ensures owned { OwnsRow C.owns calls.new connection.new.row.items }
     ensures others { StillOwns C.owns calls.old calls.new }
 {
     if !send(connection, line, now) {
-        return false;
+        return Exchanged::Gone;
     }
     'answers: loop {
         if !connection.unsent().is_empty() || !connection.may_answer(calls) {
-            return true;
+            return Exchanged::GoesOn;
         }
         let answered = connection.answer(calls, true);
         let is_late = matches!(answered, Answered::Late(_));
         let is_all = answered.is_all();
         drop(answered);
-        if is_late || !send(connection, line, now) {
-            return false;
+        if !send(connection, line, now) {
+            return Exchanged::Gone;
+        }
+        if is_late {
+            return Exchanged::BreaksOff;
         }
         if is_all {
-            return true;
+            return Exchanged::GoesOn;
         }
     }
+}
+
+/// Whether a connection has nothing to be written, and its next call must wait.
+fn is_to_wait<C: Calls<Held = Begun>>(connection: &Connection<Begun>, calls: &C) -> bool {
+    connection.unsent().is_empty() && !connection.may_answer(calls)
 }
 
 /// The least number that is awaited once this connection waits too. One whose client takes no replies
@@ -126,6 +149,7 @@ impl<C: Calls<Held = Begun> + Drop> Turns<C> {
             waiting: VecDeque::new(alloc),
             spares,
             first: None,
+            has_unsent: false,
         }
     }
 
@@ -139,9 +163,15 @@ impl<C: Calls<Held = Begun> + Drop> Turns<C> {
         self.first
     }
 
-    /// Forgets it: each that waits is looked at next.
+    /// Whether one of them may have replies that its client doesn't take for now.
+    pub(crate) fn has_unsent(&self) -> bool {
+        self.has_unsent
+    }
+
+    /// Forgets both: each that waits is looked at next.
     pub(crate) fn forget_first(&mut self) {
         self.first = None;
+        self.has_unsent = false;
     }
 
     /// The key of the client whose connection has waited longest.
@@ -152,14 +182,24 @@ impl<C: Calls<Held = Begun> + Drop> Turns<C> {
         }
     }
 
-    /// Gives up what a connection holds, whose client is gone.
-    fn give_up(&mut self, connection: Connection<Begun>) -> Turned
+    /// Gives up what a connection holds, and returns what is left of it.
+    fn give_up(&mut self, connection: Connection<Begun>) -> Option<Resting<Begun>>
         requires { OwnsRow C.owns self.old connection.row.items }
     {
         let mut connection = connection;
         connection.give_up(&mut self.calls);
         self.spares.take_back(&mut connection);
-        Turned::Ends
+        Resting::of(connection).ok()
+    }
+
+    /// Ends a connection.
+    fn end(&mut self, connection: Connection<Begun>) -> Turned
+        requires { OwnsRow C.owns self.old connection.row.items }
+    {
+        match self.give_up(connection) {
+            Some(resting) => Turned::Ends(resting),
+            None => Turned::Gone,
+        }
     }
 
     /// Keeps a connection whose calls wait.
@@ -167,11 +207,24 @@ impl<C: Calls<Held = Begun> + Drop> Turns<C> {
         requires { OwnsRow C.owns self.old connection.row.items }
     {
         if self.waiting.reserve(1).is_err() {
-            return self.give_up(connection);
+            return self.end(connection);
         }
         self.first = first_with(self.first, &connection, &self.calls);
+        self.has_unsent = self.has_unsent || !connection.unsent().is_empty();
         self.waiting.push_back_reserved(Waiting { key, connection });
         Turned::Waits
+    }
+
+    /// Takes back what a connection was lent, and keeps it if its calls wait.
+    fn put_down(&mut self, key: usize, connection: Connection<Begun>) -> Turned
+        requires { OwnsRow C.owns self.old connection.row.items }
+    {
+        let mut connection = connection;
+        self.spares.take_back(&mut connection);
+        match Resting::of(connection) {
+            Ok(resting) => Turned::Rests(resting),
+            Err(connection) => self.keep(key, connection),
+        }
     }
 
     /// Answers what need not wait, and writes it.
@@ -186,13 +239,13 @@ impl<C: Calls<Held = Begun> + Drop> Turns<C> {
     {
         let mut connection = connection;
         self.spares.lend_buffer(&mut connection);
-        if !exchange(&mut self.calls, &mut connection, line, now) {
-            return self.give_up(connection);
-        }
-        self.spares.take_back(&mut connection);
-        match Resting::of(connection) {
-            Ok(resting) => Turned::Rests(resting),
-            Err(connection) => self.keep(key, connection),
+        match exchange(&mut self.calls, &mut connection, line, now) {
+            Exchanged::GoesOn => self.put_down(key, connection),
+            Exchanged::BreaksOff => self.end(connection),
+            Exchanged::Gone => {
+                let _ = self.give_up(connection);
+                Turned::Gone
+            }
         }
     }
 
@@ -206,7 +259,7 @@ impl<C: Calls<Held = Begun> + Drop> Turns<C> {
     ) -> Turned {
         let mut connection = resting.wake();
         if !self.spares.lend_row(&mut connection) {
-            return Turned::Ends;
+            return self.end(connection);
         }
         connection.begin(&mut self.calls);
         self.go_on(key, connection, line, now)
@@ -222,8 +275,12 @@ impl<C: Calls<Held = Begun> + Drop> Turns<C> {
         now: Option<Instant>,
     ) -> Turned {
         let mut resting = resting;
-        if !resting.connection().has_message() && !self.spares.read(&mut resting, line) {
-            return Turned::Ends;
+        if !resting.connection().has_message() {
+            match self.spares.read(&mut resting, line, now) {
+                Received::Taken => {}
+                Received::End => return Turned::Gone,
+                Received::NoMemory => return Turned::Ends(resting),
+            }
         }
         if !resting.connection().has_message() {
             resting.trim();
@@ -247,12 +304,13 @@ impl<C: Calls<Held = Begun> + Drop> Turns<C> {
         self.go_on(key, resting.wake(), line, now)
     }
 
-    /// Goes on with the connection that has waited longest.
+    /// Goes on with the connection that has waited longest. What is unsent of it is written first, also if
+    /// its next call must still wait.
     pub(crate) fn resume_front(&mut self, line: &mut Line, now: Option<Instant>) -> Turned {
         match self.waiting.pop_front() {
             None => Turned::Waits,
             Some(Waiting { key, connection }) => {
-                if line.is_blocked || !connection.may_answer(&self.calls) {
+                if line.is_blocked || is_to_wait(&connection, &self.calls) {
                     return self.keep(key, connection);
                 }
                 self.go_on(key, connection, line, now)
@@ -260,10 +318,16 @@ impl<C: Calls<Held = Begun> + Drop> Turns<C> {
         }
     }
 
-    /// Gives up what the connection holds that has waited longest.
-    pub(crate) fn give_up_front(&mut self) {
-        if let Some(Waiting { key: _, connection }) = self.waiting.pop_front() {
-            let _ = self.give_up(connection);
+    /// Gives up what the connection holds that has waited longest, and returns what is left of it.
+    pub(crate) fn give_up_front(&mut self) -> Option<Resting<Begun>> {
+        match self.waiting.pop_front() {
+            None => None,
+            Some(Waiting { key: _, connection }) => self.give_up(connection),
         }
+    }
+
+    /// Goes on with a connection that is being closed. It says whether that is to go on.
+    pub(crate) fn close(&mut self, closing: &mut Closing, line: &mut Line) -> bool {
+        self.spares.close(closing, line)
     }
 }

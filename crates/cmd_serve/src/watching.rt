@@ -1,0 +1,94 @@
+//! The calls of the device are watched: one that takes long is told of.
+
+use disk_model::{DeviceCall, FirstError};
+use durable_map::Ends;
+use log::{Log, info, warn};
+use std::sync::Wait;
+use std::thread;
+use std::time::{Clock, Duration, Instant};
+
+/// How long the thread that watches sleeps at a time, in milliseconds.
+const PAUSE: u64 = 100;
+
+/// After how many seconds a device call is told of.
+const LONG: u64 = 5;
+
+/// A device call that is under way.
+#[derive(Clone, Copy)]
+struct Watched {
+    call: DeviceCall,
+    since: Instant,
+    // a record tells of it
+    is_told: bool,
+}
+
+impl Watched {
+    /// For how long it has been watched.
+    fn seconds<R: Clock>(&self, rt: &R) -> u64 {
+        match self.since.elapsed(rt) {
+            Ok(elapsed) => elapsed.as_secs(),
+            Err(_) => 0,
+        }
+    }
+
+    /// Writes a record, if it takes long and none tells of it.
+    fn tell<R: Clock + Log>(&mut self, rt: &R) {
+        if self.is_told || self.seconds(rt) < LONG {
+            return;
+        }
+        let file = self.call.file;
+        warn!(rt; "{file}: no answer for {LONG} s");
+        self.is_told = true;
+    }
+
+    /// Writes a record that it has ended, if one tells of it.
+    fn tell_end<R: Clock + Log>(&self, rt: &R) {
+        if self.is_told {
+            let file = self.call.file;
+            let seconds = self.seconds(rt);
+            info!(rt; "{file}: it answered after {seconds} s");
+        }
+    }
+}
+
+/// A call that is watched from now on.
+fn begin_watch<R: Clock>(rt: &R, call: Option<DeviceCall>) -> Option<Watched> {
+    Some(Watched {
+        call: call?,
+        since: Instant::now(rt).ok()?,
+        is_told: false,
+    })
+}
+
+/// Whether the call that is watched is this one.
+fn goes_on(watched: &Option<Watched>, call: Option<DeviceCall>) -> bool {
+    match (watched, call) {
+        (Some(watched), Some(call)) => watched.call == call,
+        _ => false,
+    }
+}
+
+/// Watches the calls of the device until `ends` says so. It asks no device, and so never waits for one.
+pub(crate) fn watch_device<R: Clock + Log + Wait, E: Ends>(
+    rt: &R,
+    first_error: &FirstError,
+    ends: &E,
+) {
+    let mut watched: Option<Watched> = None;
+    for _turn in rt.forever() {
+        if ends.has_ended() {
+            return;
+        }
+        let call = first_error.under_way();
+        if !goes_on(&watched, call) {
+            if let Some(ended) = &watched {
+                ended.tell_end(rt);
+            }
+            watched = begin_watch(rt, call);
+        }
+        if let Some(watched) = &mut watched {
+            watched.tell(rt);
+        }
+        thread::sleep(rt, Duration::from_millis(PAUSE));
+    }
+}
