@@ -1,20 +1,24 @@
-/* Lets calls of the C library fail. `tests/faults` and `tests/memory` compile it, and put it before the C library by
- * LD_PRELOAD.
+/* Lets calls of the C library fail, and tells of them. `tests/faults`, `tests/memory` and `tests/processes` compile it, and
+ * put it before the C library by LD_PRELOAD.
  *
  * It is told by the environment:
  *   FAULT_PAGE       a file of the bytes of `struct page`, which the test reads while the program runs, and after it
  *   FAULT_DIRECTORY  the directory of the map; a call counts if its descriptor is of a file there, or of the directory
  *   FAULT_FILE       the one file there whose calls count; if left out, all of them
- *   FAULT_CALL       which calls count: sync, write, read, open, or look (the length of a file is asked for)
+ *   FAULT_CALL       which calls count: sync, write, read, open, look (the length of a file is asked for), lock, or forget
+ *                    (what is cached of a file is given up)
+ *   FAULT_TRACE      a file to which each call on a file of the directory, or on the directory, adds a line: CALL NAME
  *   FAULT_FROM       the number of the first call that goes wrong, from 1
  *   FAULT_TO         the number of the last one
- *   FAULT_HOW        how: EIO, ENOSPC or EINTR, and nothing is done; short, and half of the bytes are moved; torn, and
- *                    half of the bytes are moved (a sync is made) and it fails with EIO
+ *   FAULT_HOW        how: EIO, ENOSPC, EINTR or EAGAIN, and nothing is done; short, and half of the bytes are moved; torn, and
+ *                    half of the bytes are moved (a sync is made) and it fails with EIO; held, and it is made once the test
+ *                    sets `freed`
  *   FAULT_MEMORY     n, if one allocation in n is refused, while `begun` is 1
  *   FAULT_SEED       which ones
  *   FAULT_NUMBER     the number of the one allocation that is refused, from 1, while `begun` is 1. The line `begin` that
  *                    the program writes to standard output makes it 1, in one call; the line `end` makes it 0, and so
  *                    does one that begins with `listening `, unless it is 2: then it becomes 1
+ * A sync of a file there lasts `millis` milliseconds longer, or until the test makes that number less.
  */
 #define _GNU_SOURCE
 #include <dlfcn.h>
@@ -25,14 +29,18 @@
 #include <stdint.h>
 #include <stdlib.h>
 #include <string.h>
+#include <sys/file.h>
 #include <sys/mman.h>
 #include <sys/stat.h>
 #include <sys/types.h>
+#include <time.h>
 #include <unistd.h>
 
-enum { SIZES = 512 };
+enum { SIZES = 512, TURN_MILLIS = 5 };
 
-enum call { SYNC, WRITE, READ, OPEN, LOOK, OTHER };
+enum call { SYNC, WRITE, READ, OPEN, LOOK, LOCK, FORGET, OTHER };
+
+static const char *const CALLS[] = {"sync", "write", "read", "open", "look", "lock", "forget"};
 
 struct page {
     uint64_t calls;  /* those that counted */
@@ -42,7 +50,9 @@ struct page {
                         line `listening ..` on */
     uint64_t asked;  /* allocations since then */
     uint64_t refused;
+    uint64_t freed; /* set by the test: 1 once the calls that are held go on */
     char file[32]; /* the file at whose call it first went wrong */
+    uint64_t millis; /* set by the test: how much longer a sync lasts */
     uint64_t sizes[SIZES]; /* the bytes of the first allocations that counted by FAULT_NUMBER */
 };
 
@@ -53,6 +63,8 @@ static enum call counted = OTHER;
 static uint64_t from, to, memory, seed, refused_one;
 static int error;    /* what a call that goes wrong fails with; 0 if it doesn't fail */
 static int is_half;  /* whether it moves half of the bytes, in place of none */
+static int is_held;  /* whether it waits, and is made */
+static int trace = -1; /* where the lines of FAULT_TRACE go */
 
 static uint64_t number_of(const char *name) {
     const char *word = getenv(name);
@@ -60,20 +72,22 @@ static uint64_t number_of(const char *name) {
 }
 
 static enum call call_named(const char *word) {
-    static const char *names[] = {"sync", "write", "read", "open", "look"};
     for (int call = 0; word && call < OTHER; call++)
-        if (!strcmp(word, names[call]))
+        if (!strcmp(word, CALLS[call]))
             return call;
     return OTHER;
 }
 
 static void read_how(const char *word) {
     is_half = !strcmp(word, "short") || !strcmp(word, "torn");
+    is_held = !strcmp(word, "held");
     if (!strcmp(word, "ENOSPC"))
         error = ENOSPC;
     else if (!strcmp(word, "EINTR"))
         error = EINTR;
-    else if (strcmp(word, "short"))
+    else if (!strcmp(word, "EAGAIN"))
+        error = EAGAIN;
+    else if (strcmp(word, "short") && !is_held)
         error = EIO;
 }
 
@@ -97,6 +111,8 @@ __attribute__((constructor)) static void begin(void) {
     refused_one = number_of("FAULT_NUMBER");
     if (getenv("FAULT_HOW"))
         read_how(getenv("FAULT_HOW"));
+    if (getenv("FAULT_TRACE"))
+        trace = open(getenv("FAULT_TRACE"), O_WRONLY | O_CREAT | O_APPEND | O_CLOEXEC, 0600);
     page = found;
 }
 
@@ -112,11 +128,35 @@ static uint64_t add_to(uint64_t *count) {
     return __atomic_add_fetch(count, 1, __ATOMIC_SEQ_CST);
 }
 
+#define REAL(name) ((__typeof__(&name))dlsym(RTLD_NEXT, #name))
+
+/* Adds the call's line to the trace, in one write. */
+static void tell(enum call call, const char *name) {
+    char line[64] = "";
+    int saved = errno;
+    if (trace < 0 || strlen(name) > sizeof line - 16)
+        return;
+    strcat(strcat(strcat(strcat(line, CALLS[call]), " "), *name ? name : "."), "\n");
+    if (REAL(write)(trace, line, strlen(line)) < 0)
+        abort();
+    errno = saved;
+}
+
+/* Waits for as long as the test says now. */
+static void be_late(void) {
+    struct timespec turn = {0, TURN_MILLIS * 1000000};
+    for (uint64_t gone = 0; gone < __atomic_load_n(&page->millis, __ATOMIC_SEQ_CST); gone += TURN_MILLIS)
+        nanosleep(&turn, NULL);
+}
+
 /* Whether this call goes wrong; it is counted. */
 static int goes_wrong(enum call call, const char *path) {
     const char *name = name_in(path);
     if (!name)
         return 0;
+    tell(call, name);
+    if (call == SYNC)
+        be_late();
     if (call < READ && __atomic_load_n(&page->faults, __ATOMIC_SEQ_CST))
         add_to(&page->after);
     if (call != counted || (file && strcmp(file, name)))
@@ -126,7 +166,9 @@ static int goes_wrong(enum call call, const char *path) {
         return 0;
     if (add_to(&page->faults) == 1)
         strncpy(page->file, *name ? name : ".", sizeof page->file - 1);
-    return 1;
+    while (is_held && !__atomic_load_n(&page->freed, __ATOMIC_SEQ_CST))
+        usleep(1000);
+    return !is_held;
 }
 
 static int goes_wrong_at(enum call call, int fd) {
@@ -152,8 +194,6 @@ static int fate(enum call call, int fd, size_t *length) {
     *length = !is_half ? 0 : error ? (*length + 1) / 2 : *length > 1 ? *length / 2 : *length;
     return error;
 }
-
-#define REAL(name) ((__typeof__(&name))dlsym(RTLD_NEXT, #name))
 
 /* The rest of a function that moves bytes: `made` is the call of the C library. */
 #define MOVES(call, made)                  \
@@ -215,6 +255,17 @@ int fsync(int fd) {
 int fdatasync(int fd) {
     size_t length = 1;
     MOVES(SYNC, REAL(fdatasync)(fd));
+}
+
+int flock(int fd, int how) {
+    size_t length = 1;
+    MOVES(LOCK, REAL(flock)(fd, how));
+}
+
+int posix_fadvise(int fd, off_t at, off_t bytes, int advice) {
+    size_t length = 1;
+    int cause = advice == POSIX_FADV_DONTNEED ? fate(FORGET, fd, &length) : 0;
+    return cause ? cause : REAL(posix_fadvise)(fd, at, bytes, advice);
 }
 
 int statx(int fd, const char *restrict path, int flags, unsigned mask, struct statx *restrict found) {

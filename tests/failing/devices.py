@@ -25,8 +25,13 @@ def is_refused(port):
         return reply == FAILED and not connection.socket.recv(1)
 
 
+# The threads that stay beside the workers: the first one, two for the whole map, the one that watches the device, and the one
+# that writes the records.
+OTHER_THREADS = 5
+
+
 def threads_of(child):
-    """How many threads the process has: at first its first one, its workers, one for the whole map, and two loops."""
+    """How many threads the process has: at first two loops beside those that stay."""
     return len(os.listdir(f"/proc/{child.pid}/task"))
 
 
@@ -52,8 +57,8 @@ def work_until_failed(here, fault=None, words=SMALL, limits=()):
         check(not unrefused, f"clients that weren't refused: {unrefused}")
         later = [is_refused(port) for _ in range(3)]
         check(all(later), f"whether later calls were refused with 9: {later}")
-        check(wait_until(lambda: threads_of(child) <= CONNECTIONS + 2),
-              f"a loop goes on: {threads_of(child)} threads, not {CONNECTIONS + 2}")
+        check(wait_until(lambda: threads_of(child) <= CONNECTIONS + OTHER_THREADS),
+              f"a loop goes on: {threads_of(child)} threads, not {CONNECTIONS + OTHER_THREADS}")
         check(rests(child), f"the process goes on working, or has ended with {child.poll()}")
         kill(child)
     check(here.told() == 1, f"{here.told()} records say that the store has failed")

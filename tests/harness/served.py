@@ -25,11 +25,13 @@ REPLY_SECONDS = 60
 
 class MapTest(unittest.TestCase):
     """A test with a directory of its own, in which a new map lies."""
+    # The program, if the command has read its words; else its first word names it.
+    program = None
 
     def setUp(self):
         self.stack = contextlib.ExitStack()
         self.addCleanup(self.stack.close)
-        self.program = named_program()
+        self.program = self.program or named_program()
         self.directory = os.path.join(self.stack.enter_context(temporary_directory()), "map")
         init(self.program, self.directory)
 

@@ -1,6 +1,7 @@
 """Requests and replies, runs of the program, and the processes of servers."""
 import concurrent.futures
 import contextlib
+import errno
 import os
 import random
 import resource
@@ -190,10 +191,10 @@ def dchm(program, directory, workers, words=(), limits=(), environment=None):
 
 
 @contextlib.contextmanager
-def dchm_at_socket(program, directory, workers, path, words=()):
+def dchm_at_socket(program, directory, workers, path, words=(), limits=(), environment=None):
     """`dchm serve` at a Unix socket, once it has said that it listens: the process and the path."""
     line = [program, "serve", directory, "--socket", path, "--workers", str(workers), *words]
-    with process(line, directory + ".errors") as child:
+    with process(line, directory + ".errors", limits, environment) as child:
         said = first_line(child)
         if said != b"listening %s\n" % path.encode():
             raise RuntimeError(f"dchm serve said {said!r}")
@@ -231,6 +232,21 @@ def connect_to(place):
         client.close()
         raise
     return client
+
+
+def fill_backlog(listener):
+    """Connections that wait at a listener that takes none, as many as find room there; or they are tried, at a port."""
+    waiting = []
+    while True:
+        client = socket.socket(listener.family)
+        client.setblocking(False)
+        waiting.append(client)
+        try:
+            client.connect(listener.getsockname())
+        except BlockingIOError as error:
+            # At a port no connection is there at once: of five tried at least one finds no room.
+            if error.errno == errno.EAGAIN or len(waiting) == 5:
+                return waiting
 
 
 def send_to_end(client, pieces):

@@ -1,6 +1,10 @@
 """What runs and counts tests: the words of a command, its cases or its unittest classes, and its last line."""
 import argparse
+import collections
+import concurrent.futures
 import os
+import re
+import subprocess
 import sys
 import time
 import unittest
@@ -51,6 +55,9 @@ def parser(description, built=places.PROGRAM):
     return words
 
 
+COUNTS = re.compile(r"(\d+) passed, (\d+) failed(?:, (\d+) skipped)?")
+
+
 class Counts:
     """How many cases passed, failed and were skipped."""
 
@@ -66,6 +73,14 @@ class Counts:
         self.passed += 1
         if said:
             print(f"{name}: {said}", flush=True)
+
+    def take(self, found, fault):
+        """Adds the counts that a last line tells; a process that told none has failed."""
+        if fault:
+            self.add(*fault.split(": ", 1))
+            return
+        passed, failed, skipped = (int(number or 0) for number in found.groups())
+        self.passed, self.failed, self.skipped = self.passed + passed, self.failed + failed, self.skipped + skipped
 
     def leave_out(self, count, why):
         """So many cases can't be tried: they are skipped, or have failed."""
@@ -84,10 +99,40 @@ class Counts:
         return 1 if self.failed else 0
 
 
-def run_tests():
-    """Runs the unittest classes of the command; returns its exit status."""
-    end_by_signal()
+def cases_in(tests):
+    for test in tests:
+        yield from cases_in(test) if isinstance(test, unittest.TestSuite) else (test,)
+
+
+def named_tests(only="", part=None):
+    """The tests of the command's unittest classes whose names have a word, all of them or those of one class."""
     tests = unittest.defaultTestLoader.loadTestsFromModule(sys.modules["__main__"])
-    result = unittest.TextTestRunner(sys.stdout, verbosity=2).run(tests)
+    return [test for test in cases_in(tests) if only in test.id() and part in (None, type(test).__name__)]
+
+
+def run_tests(only="", part=None):
+    """Runs these tests; returns the exit status."""
+    end_by_signal()
+    result = unittest.TextTestRunner(sys.stdout, verbosity=2).run(unittest.TestSuite(named_tests(only, part)))
     failed, skipped = len(result.failures) + len(result.errors), len(result.skipped)
     return Counts(result.testsRun - failed - skipped, failed, skipped).end()
+
+
+def run_parts(only, jobs):
+    """Runs these tests, so many classes beside each other, each in a process of its own; returns the exit status."""
+    end_by_signal()
+    tests = collections.Counter(type(test).__name__ for test in named_tests(only))
+    # Those with the most tests first.
+    parts, counts = [part for part, _ in tests.most_common()], Counts()
+
+    def run(part):
+        return subprocess.run([sys.executable, *sys.argv, "--part", part], stdin=subprocess.DEVNULL, stdout=subprocess.PIPE,
+                              stderr=subprocess.STDOUT, text=True, errors="replace")
+
+    with concurrent.futures.ThreadPoolExecutor(jobs) as pool:
+        for part, ended in zip(parts, pool.map(run, parts)):
+            *lines, last = ended.stdout.splitlines() or [""]
+            print(f"== {part}", *lines, sep="\n", flush=True)
+            found = COUNTS.fullmatch(last)
+            counts.take(found, f"{part}: status {ended.returncode}, {last}" if not found else None)
+    return counts.end()

@@ -181,6 +181,7 @@ class Standby(Process):
         """It listens now, and has told once that it waited, and then how many changes there are."""
         self.assertEqual(b"listening %d\n" % port, first_line(child))
         waited = rf"\[INFO  cmd_serve(?:::\w+)*\] {self.WAITS} {self.directory}"
+        self.wait_until(lambda: "prefix" in read(errors), "it says how many changes there are")
         self.assertRegex(read(errors), rf"^{waited}\n{PREFIX_RECORD.format(prefix)}\n$")
 
     def put(self, port, number):

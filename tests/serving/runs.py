@@ -11,6 +11,8 @@ PROGRAM = named_program()
 CONNECTIONS, REQUESTS = 8, 50
 # With a small log checkpoints fall into the run, and logs are followed by others.
 SMALL_LOG = ("--checkpoint-bytes", "1024")
+# What is said of a directory whose lock another process has.
+IN_USE = "in use by another process"
 # The record of a server that has opened a directory: its level, the module that wrote it, and its message.
 PREFIX_RECORD = r"\[INFO  cmd_serve(?:::\w+)*\] prefix {}"
 

@@ -1,4 +1,5 @@
 """Calls of a server, of single keys and of the whole map, and the directory that it has open."""
+import concurrent.futures
 import fcntl
 import os
 import subprocess
@@ -8,7 +9,10 @@ from harness.counters import COUNTERS, Client
 from harness.files import FILES, OLD_FILES, read_file, read_files, write_files
 from harness.served import COUNT
 from harness.servers import Connection, Dchm, init, kill
-from serving.runs import CONNECTIONS, PREFIX_RECORD, PROGRAM, REQUESTS, Process, call_lines, prefix_of, run
+from serving.runs import CONNECTIONS, IN_USE, PREFIX_RECORD, PROGRAM, REQUESTS, Process, call_lines, prefix_of, run
+
+# The lines of the program that open a directory: the first word, and those behind the directory.
+LINES = (("check",), ("init",), ("serve", "--port", "7411"))
 
 
 class Session(Process):
@@ -99,8 +103,8 @@ class Session(Process):
             self.assertEqual((1, ""), (status, printed))
             record, word = said.splitlines()
             self.assertIn(f"the directory {self.directory} can't be opened", record)
-            self.assertEqual("unreadable", word)
-            self.assertEqual([], self.cannot_serve(self.directory, 7411, "can't be opened"))
+            self.assertEqual(IN_USE, word)
+            self.assertEqual([], self.cannot_serve(self.directory, 7411, "can't be opened", IN_USE))
 
     def test_a_file_that_another_has_locked(self):
         """Each of the five files is locked, and none is read or written while another has one of them."""
@@ -108,13 +112,13 @@ class Session(Process):
         for name in (*FILES, "lock"):
             with open(os.path.join(self.directory, name), "rb") as file:
                 fcntl.flock(file, fcntl.LOCK_EX)
-                for words in (("check",), ("init",), ("serve", "--port", "7411")):
-                    status, printed, said = run(words[0], self.directory, *words[1:])
+                with concurrent.futures.ThreadPoolExecutor(len(LINES)) as pool:
+                    ends = pool.map(lambda words: run(words[0], self.directory, *words[1:]), LINES)
+                for words, (status, printed, said) in zip(LINES, ends):
                     self.assertEqual((1, ""), (status, printed), (name, words))
                     record, word = said.splitlines()
-                    refused = rf"^\[ERROR .*the directory {self.directory} can't be opened: operation would block"
-                    self.assertRegex(record, refused)
-                    self.assertEqual("unreadable", word)
+                    self.assertRegex(record, rf"^\[ERROR .*the directory {self.directory} can't be opened: {IN_USE}$")
+                    self.assertEqual(IN_USE, word)
             self.assertEqual(before, read_files(self.directory), name)
         self.assertEqual(0, prefix_of(self.directory))
 
@@ -133,14 +137,14 @@ class Session(Process):
                 return "taken"
         return "free"
 
-    def cannot_serve(self, directory, port, cause):
-        """A server that can't start says why in one record, and then `unreadable`; returns the records before."""
+    def cannot_serve(self, directory, port, cause, word="unreadable"):
+        """A server that can't start says why in one record, and then the word; returns the records before."""
         status, printed, said = run("serve", directory, "--port", str(port))
         self.assertEqual((1, ""), (status, printed))
         *before, record, last = said.splitlines()
         self.assertIn("ERROR", record)
         self.assertIn(cause, record)
-        self.assertEqual("unreadable", last)
+        self.assertEqual(word, last)
         return before
 
     def test_a_port_that_is_taken(self):

@@ -8,8 +8,8 @@ import stat
 import unittest
 
 from harness.files import OLD_FILES, write_files
-from harness.servers import HOST, dchm, dchm_at_socket, first_line, init, kill, process, run_program
-from serving.runs import CONNECTIONS, PROGRAM, Process, files_of, run
+from harness.servers import HOST, dchm, dchm_at_socket, fill_backlog, first_line, init, kill, process, run_program
+from serving.runs import CONNECTIONS, IN_USE, PROGRAM, Process, files_of, run
 
 # A user without rights.
 NOBODY = 65534
@@ -31,7 +31,7 @@ class Socket(Process):
     def mode(self):
         return stat.S_IMODE(os.stat(self.path).st_mode)
 
-    def cannot_serve(self, path, cause, directory=None, words=()):
+    def cannot_serve(self, path, cause, directory=None, words=(), word="unreadable"):
         """A server that can't listen says why in one record, prints nothing, and leaves its directory as it was."""
         directory = directory or self.directory
         before = files_of(directory)
@@ -40,7 +40,7 @@ class Socket(Process):
         *_, record, last = said.splitlines()
         self.assertTrue(record.startswith("[ERROR cmd_"), record)
         self.assertIn(cause, record)
-        self.assertEqual(("unreadable", before), (last, files_of(directory)))
+        self.assertEqual((word, before), (last, files_of(directory)))
 
     def test_calls(self):
         with self.served_at():
@@ -85,7 +85,7 @@ class Socket(Process):
         init(PROGRAM, other)
         with self.served_at():
             file = os.stat(self.path).st_ino
-            self.cannot_serve(self.path, "the directory")
+            self.cannot_serve(self.path, "the directory", word=IN_USE)
             self.cannot_serve(self.path, f"the socket {self.path} can't be listened on: another server", directory=other)
             self.assertEqual(file, os.stat(self.path).st_ino)
             self.assertEqual((0, "was _\n", ""), self.call("put", "a", "i5"))
@@ -124,6 +124,16 @@ class Socket(Process):
                 for child in servers:
                     child.kill()
                     child.wait()
+
+    def test_a_server_that_takes_no_connection(self):
+        """It listens there, though no more of them can wait for it."""
+        with socket.socket(socket.AF_UNIX) as listener:
+            listener.bind(self.path)
+            listener.listen(0)
+            waiting = fill_backlog(listener)
+            self.cannot_serve(self.path, f"the socket {self.path} can't be listened on: another server listens there")
+            for client in waiting:
+                client.close()
 
     def test_what_is_no_socket_stays(self):
         with open(self.path, "wb") as file:

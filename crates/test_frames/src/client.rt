@@ -1,6 +1,6 @@
 //! Calls of a server, and what is printed of their answers.
 use crate::checks::assert_same;
-use cmd_call::{PlaceWords, Servers, ask, call};
+use cmd_call::{PlaceWords, Servers, ask, call, server_named};
 use log::Log;
 use map_types::{Key, Question, Read, Refusal};
 use std::alloc::Global;
@@ -210,7 +210,11 @@ static CALLS: [(Option<&str>, Option<&str>, &[&str], u8, &[u8]); 19] = [
 fn first_answered<M: Servers + Log>(machine: &M, alloc: Global) -> Option<usize> {
     for number in 0..CALLS.len() {
         let (port, socket, words, status, error) = CALLS[number];
-        let at = PlaceWords { port, socket };
+        let at = PlaceWords {
+            port,
+            socket,
+            timeout_ms: "10000",
+        };
         if !is_unanswered(machine, alloc, &at, words, status, error) {
             return Some(number);
         }
@@ -221,4 +225,39 @@ fn first_answered<M: Servers + Log>(machine: &M, alloc: Global) -> Option<usize>
 #[test]
 fn calls_without_an_answer(rt: HostRuntime) {
     assert_same(&rt, &first_answered(&rt, rt.alloc()), &None);
+}
+
+/// Words for how long a server is waited for, and the milliseconds that they name.
+static TIMES: [(&str, Option<u32>); 6] = [
+    ("1", Some(1)),
+    ("10000", Some(10_000)),
+    ("2147483648", Some(2_147_483_648)),
+    ("0", None),
+    ("2147483649", None),
+    ("1.5", None),
+];
+
+/// The number of the first of these words that names another time, if any.
+fn first_misnamed() -> Option<usize> {
+    for number in 0..TIMES.len() {
+        let (timeout_ms, named) = TIMES[number];
+        let at = PlaceWords {
+            port: Some("7000"),
+            socket: None,
+            timeout_ms,
+        };
+        let found = match server_named(&at) {
+            Ok(server) => Some(server.timeout_ms),
+            Err(_) => None,
+        };
+        if found != named {
+            return Some(number);
+        }
+    }
+    None
+}
+
+#[test]
+fn times_that_a_server_is_waited_for(rt: HostRuntime) {
+    assert_same(&rt, &first_misnamed(), &None);
 }

@@ -15,18 +15,20 @@ fn is_printed_alone<L: Log>(rt: &L, alloc: Global) -> bool {
     status == 0 && output.as_slice() == b"did yes\n".as_slice() && error.is_empty()
 }
 
-/// The statuses of a refusal, of a text that breaks off, and of two files that cannot be opened.
-fn complaints(alloc: Global, error: &mut Vec<u8>) -> [u8; 4] {
+/// The statuses of a refusal, of a text that breaks off, and of three files that cannot be opened.
+fn complaints(alloc: Global, error: &mut Vec<u8>) -> [u8; 5] {
     [
         refuse(alloc, Refusal::Failed, error),
         break_off(error),
         cannot_open(alloc, &io::Error::from(ErrorKind::NotFound), error),
         cannot_open(alloc, &io::Error::from(ErrorKind::OutOfMemory), error),
+        cannot_open(alloc, &io::Error::from(ErrorKind::WouldBlock), error),
     ]
 }
 
 /// What is said of them.
-const COMPLAINTS: &[u8] = b"refused 9 Failed\nunreadable\nunreadable\nrefused 7 NoMemory\n";
+const COMPLAINTS: &[u8] = b"refused 9 Failed\nunreadable\nunreadable\nrefused 7 NoMemory\n\
+    in use by another process\n";
 
 #[test]
 fn what_is_said(rt: HostRuntime) {
@@ -34,7 +36,7 @@ fn what_is_said(rt: HostRuntime) {
     assert_same(&rt, &is_printed_alone(&rt, alloc), &true);
     let mut error = Vec::new(alloc);
     let statuses = complaints(alloc, &mut error);
-    assert_same(&rt, &(statuses, error.as_slice()), &([1; 4], COMPLAINTS));
+    assert_same(&rt, &(statuses, error.as_slice()), &([1; 5], COMPLAINTS));
     drop(error);
 }
 

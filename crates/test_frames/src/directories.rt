@@ -2,7 +2,7 @@
 ghost use Rattle.std.specs.Prelude.{◌<◌};
 
 use crate::checks::assert_same;
-use disk_model::{DeviceError, DirDisk, Disk, Unknown};
+use disk_model::{DeviceError, DirDisk, Disk, FirstError, Unknown};
 use std::{fs, io};
 
 /// What is done with a directory, or asked of it.
@@ -21,6 +21,19 @@ enum Step {
     Stands(&'static str),
     /// Something of a file of the disk.
     With(usize, Call),
+    /// Keeps what tells of the disk's files, beside the disk.
+    Watch,
+    /// Gives that up.
+    Unwatch,
+    /// Something that it tells.
+    Ask(Question),
+}
+
+/// A question on a disk's files.
+enum Question {
+    IsUnderWay,
+    IsRemoved,
+    HasFailed,
 }
 
 /// A call of a file.
@@ -83,10 +96,11 @@ fn seen_of(made: io::Result<()>) -> Seen {
     }
 }
 
-/// The disk that is kept.
+/// The disk that is kept, and what tells of one.
 #[derive(Drop)]
 struct Bench {
     disk: Option<DirDisk<Unknown>>,
+    first_error: Option<FirstError>,
 }
 
 impl Bench {
@@ -103,6 +117,30 @@ impl Bench {
     fn close(&mut self) -> Seen {
         self.disk = None;
         Seen::Done
+    }
+
+    fn watch(&mut self) -> Seen {
+        self.first_error = match &self.disk {
+            Some(disk) => disk.first_error().ok(),
+            None => None,
+        };
+        Seen::Is(self.first_error.is_some())
+    }
+
+    fn unwatch(&mut self) -> Seen {
+        self.first_error = None;
+        Seen::Done
+    }
+
+    fn ask(&self, question: &Question) -> Seen {
+        let Some(first_error) = &self.first_error else {
+            return Seen::Failed;
+        };
+        Seen::Is(match question {
+            Question::IsUnderWay => first_error.under_way().is_some(),
+            Question::IsRemoved => first_error.note_removal(),
+            Question::HasFailed => first_error.get().is_some(),
+        })
     }
 
     fn with(&mut self, file: usize, call: &Call) -> Seen {
@@ -124,13 +162,19 @@ impl Bench {
             Step::Close => self.close(),
             Step::Stands(path) => Seen::Is(fs::metadata(rt, path).is_ok()),
             Step::With(file, call) => self.with(*file, call),
+            Step::Watch => self.watch(),
+            Step::Unwatch => self.unwatch(),
+            Step::Ask(question) => self.ask(question),
         }
     }
 }
 
 /// The number of the first step of which something else comes, if any, and what comes of it.
 fn first_wrong(rt: &HostRuntime, steps: &[(Step, Seen)]) -> Option<(usize, Seen)> {
-    let mut bench = Bench { disk: None };
+    let mut bench = Bench {
+        disk: None,
+        first_error: None,
+    };
     for number in 0..steps.len() {
         let (step, wanted) = &steps[number];
         let seen = bench.take(rt, step);
@@ -195,4 +239,28 @@ static LOCKED: [(Step, Seen); 8] = [
 #[test]
 fn a_directory_is_open_once(rt: HostRuntime) {
     assert_same(&rt, &first_wrong(&rt, &LOCKED), &None);
+}
+
+/// What tells of the files has the locks too.
+static WATCHED: [(Step, Seen); 15] = [
+    (Step::Make("watched"), Seen::Done),
+    (Step::Create("watched"), Seen::Done),
+    (Step::Watch, Seen::Is(true)),
+    (Step::With(2, Call::Put(0, b"words")), Seen::Done),
+    (Step::With(2, Call::Sync), Seen::Done),
+    (Step::Ask(Question::IsUnderWay), Seen::Is(false)),
+    (Step::Ask(Question::IsRemoved), Seen::Is(false)),
+    (Step::Close, Seen::Done),
+    (Step::Create("watched"), Seen::Failed),
+    (Step::Ask(Question::HasFailed), Seen::Is(false)),
+    (Step::Remove("watched"), Seen::Done),
+    (Step::Ask(Question::IsRemoved), Seen::Is(true)),
+    (Step::Ask(Question::HasFailed), Seen::Is(true)),
+    (Step::Unwatch, Seen::Done),
+    (Step::Ask(Question::HasFailed), Seen::Failed),
+];
+
+#[test]
+fn a_file_that_was_removed_is_told(rt: HostRuntime) {
+    assert_same(&rt, &first_wrong(&rt, &WATCHED), &None);
 }
