@@ -1,56 +1,40 @@
 package dchm.client;
 
+import java.util.Map;
+import java.util.OptionalLong;
 import java.util.concurrent.CompletableFuture;
-import java.util.concurrent.Executor;
-import java.util.function.Function;
 
 /**
- * The map of a server, each call of which returns at once. Calls of one key by one thread are made in their order. If
- * as many are under way as {@link DchmClient.Builder#inFlight} allows, a call waits until it can be sent.
+ * The map of a server, each call of which returns at once, whatever the server does. Calls of one key by one thread are
+ * made in their order. If as many are under way as {@link DchmClient.Builder#inFlight} allows, further ones wait in
+ * memory, up to {@link DchmClient.Builder#waiting}.
  *
  * <p>A null, a key or a value that no server can hold is thrown at once, as {@link DchmMap} does. All else completes
  * the future: {@link NotMadeException} and {@link RefusedException} if nothing changed, {@link OutcomeOpenException}
  * if the outcome of a change is open. A read isn't sent again.
  *
- * <p>A callback runs on the thread that reads the replies, unless the client has an executor for it. There it must not
- * wait for a call: IllegalStateException, and nothing is sent.
+ * <p>Callbacks run on the common pool, or on the client's executor. They may wait for calls. Those of different calls may
+ * run at a time, in any order. A future that is cancelled takes back its call if nothing of it was sent.
  *
  * @param <V> the class of the values: Long, String, or Object for both
  */
-public final class AsyncDchmMap<V> {
-    private final DchmClient client;
-    private final Class<V> kind;
-
-    AsyncDchmMap(DchmClient client, Class<V> kind) {
-        this.client = client;
-        this.kind = kind;
-    }
-
-    private <T> CompletableFuture<T> ask(byte[] key, byte[] frame, Function<Wire.Reply, T> result) {
-        Function<Wire.Reply, T> told = reply -> result.apply(Told.checked(reply, frame));
-        Executor callbacks = client.callbacks();
-        CompletableFuture<Wire.Reply> call = client.send(key, frame);
-        return callbacks == null ? call.thenApply(told) : call.thenApplyAsync(told, callbacks);
-    }
-
-    private CompletableFuture<V> value(byte[] key, byte[] frame) {
-        return ask(key, frame, reply -> Wire.told(kind, reply.value()));
-    }
-
-    private CompletableFuture<Boolean> isDone(byte[] key, byte[] frame) {
-        return ask(key, frame, Wire.Reply::isDone);
-    }
-
+public interface AsyncDchmMap<V> {
     /**
      * The value of a key.
      *
      * @param key the key
      * @return the value, or null
      */
-    public CompletableFuture<V> get(String key) {
-        byte[] bytes = Wire.key(key);
-        return value(bytes, Wire.request(Wire.GET, bytes));
-    }
+    CompletableFuture<V> get(String key);
+
+    /**
+     * The value of a key, or another one, which may be null.
+     *
+     * @param key the key
+     * @param otherwise what is given if the key has no value
+     * @return the value
+     */
+    CompletableFuture<V> getOrDefault(String key, V otherwise);
 
     /**
      * Whether a key has a value.
@@ -58,10 +42,7 @@ public final class AsyncDchmMap<V> {
      * @param key the key
      * @return whether it has one
      */
-    public CompletableFuture<Boolean> containsKey(String key) {
-        byte[] bytes = Wire.key(key);
-        return isDone(bytes, Wire.request(Wire.CONTAINS_KEY, bytes));
-    }
+    CompletableFuture<Boolean> containsKey(String key);
 
     /**
      * Maps a key to a value.
@@ -70,10 +51,7 @@ public final class AsyncDchmMap<V> {
      * @param value the value
      * @return the value before, or null
      */
-    public CompletableFuture<V> put(String key, V value) {
-        byte[] bytes = Wire.key(key);
-        return value(bytes, Wire.request(Wire.PUT, bytes, Wire.checked(kind, value)));
-    }
+    CompletableFuture<V> put(String key, V value);
 
     /**
      * Maps a key to a value if it has none.
@@ -82,10 +60,7 @@ public final class AsyncDchmMap<V> {
      * @param value the value
      * @return the value before, or null if the change was made
      */
-    public CompletableFuture<V> putIfAbsent(String key, V value) {
-        byte[] bytes = Wire.key(key);
-        return value(bytes, Wire.request(Wire.PUT_IF_ABSENT, bytes, Wire.checked(kind, value)));
-    }
+    CompletableFuture<V> putIfAbsent(String key, V value);
 
     /**
      * Unmaps a key.
@@ -93,10 +68,7 @@ public final class AsyncDchmMap<V> {
      * @param key the key
      * @return the value before, or null
      */
-    public CompletableFuture<V> remove(String key) {
-        byte[] bytes = Wire.key(key);
-        return value(bytes, Wire.request(Wire.REMOVE, bytes));
-    }
+    CompletableFuture<V> remove(String key);
 
     /**
      * Unmaps a key if it has this value.
@@ -105,10 +77,7 @@ public final class AsyncDchmMap<V> {
      * @param value the value
      * @return whether it was done
      */
-    public CompletableFuture<Boolean> remove(String key, V value) {
-        byte[] bytes = Wire.key(key);
-        return isDone(bytes, Wire.request(Wire.REMOVE_IF, bytes, Wire.checked(kind, value)));
-    }
+    CompletableFuture<Boolean> remove(String key, V value);
 
     /**
      * Maps a key to another value if it has one.
@@ -117,10 +86,7 @@ public final class AsyncDchmMap<V> {
      * @param value the new value
      * @return the value before, or null if there was none
      */
-    public CompletableFuture<V> replace(String key, V value) {
-        byte[] bytes = Wire.key(key);
-        return value(bytes, Wire.request(Wire.REPLACE, bytes, Wire.checked(kind, value)));
-    }
+    CompletableFuture<V> replace(String key, V value);
 
     /**
      * Maps a key to another value if it has the old one.
@@ -130,11 +96,7 @@ public final class AsyncDchmMap<V> {
      * @param value the new value
      * @return whether it was done
      */
-    public CompletableFuture<Boolean> replace(String key, V old, V value) {
-        byte[] bytes = Wire.key(key);
-        return isDone(bytes,
-            Wire.request(Wire.REPLACE_IF, bytes, Wire.checked(kind, old), Wire.checked(kind, value)));
-    }
+    CompletableFuture<Boolean> replace(String key, V old, V value);
 
     /**
      * Merges a value into that of a key, by a function of the server. A fault completes the future with a
@@ -145,10 +107,7 @@ public final class AsyncDchmMap<V> {
      * @param function the function
      * @return the new value, or null
      */
-    public CompletableFuture<V> merge(String key, V value, Fn<V> function) {
-        byte[] bytes = Wire.key(key);
-        return value(bytes, Wire.request(Wire.MERGE, bytes, function, Wire.checked(kind, value)));
-    }
+    CompletableFuture<V> merge(String key, V value, Fn<V> function);
 
     /**
      * Maps a key to what a function of the server gives of the old value and the argument. Faults are as of
@@ -159,9 +118,64 @@ public final class AsyncDchmMap<V> {
      * @param argument its argument; null for a function that needs none
      * @return the new value, or null
      */
-    public CompletableFuture<V> compute(String key, Fn<V> function, V argument) {
-        byte[] bytes = Wire.key(key);
-        Object sent = argument == null ? Wire.ABSENT : Wire.checked(kind, argument);
-        return value(bytes, Wire.request(Wire.COMPUTE, bytes, function, sent));
-    }
+    CompletableFuture<V> compute(String key, Fn<V> function, V argument);
+
+    /**
+     * As {@link #compute}, if the key has no value.
+     *
+     * @param key the key
+     * @param function the function
+     * @param argument its argument; null for a function that needs none
+     * @return the value that the key has now, or null
+     */
+    CompletableFuture<V> computeIfAbsent(String key, Fn<V> function, V argument);
+
+    /**
+     * As {@link #compute}, if the key has a value.
+     *
+     * @param key the key
+     * @param function the function
+     * @param argument its argument; null for a function that needs none
+     * @return the new value, or null
+     */
+    CompletableFuture<V> computeIfPresent(String key, Fn<V> function, V argument);
+
+    /**
+     * Puts each entry. It is not one change. An OutcomeOpenException names the entries that are open.
+     *
+     * @param entries the entries
+     * @return nothing, once all are put
+     */
+    CompletableFuture<Void> putAll(Map<? extends String, ? extends V> entries);
+
+    /**
+     * How many keys have a value. The server asks each stripe of its map.
+     *
+     * @return the number
+     */
+    CompletableFuture<Long> mappingCount();
+
+    /**
+     * Whether a key has this value. The server goes over its whole map.
+     *
+     * @param value the value
+     * @return whether there is one
+     */
+    CompletableFuture<Boolean> containsValue(V value);
+
+    /**
+     * The least key, by its bytes, that has this value. The server goes over its whole map.
+     *
+     * @param value the value
+     * @return the key, or null
+     */
+    CompletableFuture<String> search(V value);
+
+    /**
+     * Folds all values by a function. The server goes over its whole map. A text is a ClassCastException.
+     *
+     * @param function SUM, MAX or MIN
+     * @return the result, empty if the map is
+     */
+    CompletableFuture<OptionalLong> reduceToLong(Fn<Long> function);
 }

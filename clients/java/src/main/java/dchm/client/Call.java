@@ -1,66 +1,145 @@
 package dchm.client;
 
-import java.util.concurrent.CompletionException;
-import java.util.concurrent.TimeUnit;
+import java.util.concurrent.ForkJoinPool;
+import java.util.concurrent.ForkJoinWorkerThread;
+import java.util.concurrent.locks.LockSupport;
 
-/** A request, and how long its reply may take from its sending on. */
-final class Call extends Pending<Wire.Reply> {
+/** A request from its begin to its end, which is a reply or an exception. */
+final class Call {
+    /** Who is told that a call has ended. */
+    interface Owner {
+        void ended();
+    }
+
+    /** Of a call whose bytes are in no stream yet. */
+    static final long NOWHERE = Long.MAX_VALUE;
+    private static final byte[] NO_FRAME = {};
     final byte[] frame;
-    final long mostNanos;
-    /** Whether a thread waits for the reply; else a callback may. */
+    /** The moment of the clock by which it ends. */
+    final long due;
+    /** Whether a thread waits for it; else its end is told to a callback. */
     final boolean isAwaited;
     final boolean isChange;
-    // The moment of System.nanoTime at which the reply is due.
-    private long due;
-    private boolean wasQueued;
+    private final Owner owner;
+    // Kept by the lock of its lane: where in the stream its last byte ends, and whether it was sent before.
+    long endsAt = NOWHERE;
+    boolean isRepeated;
+    private volatile Object outcome;
+    private volatile Thread waiter;
 
-    Call(byte[] frame, long mostNanos, boolean isAwaited) {
+    private Call(byte[] frame, long due, boolean isAwaited, Owner owner) {
         this.frame = frame;
-        this.mostNanos = mostNanos;
+        this.due = due;
         this.isAwaited = isAwaited;
-        isChange = Wire.isChange(frame);
+        this.owner = owner;
+        isChange = frame.length > 0 && Wire.isChange(frame);
     }
 
-    /** Says that the request lies with others that are written. */
-    void queuedAt(long now) {
-        due = now + mostNanos;
-        wasQueued = true;
+    /** A call for which a thread waits. */
+    static Call awaited(byte[] frame, long due) {
+        return new Call(frame, due, true, null);
     }
 
-    /** Whether it may have been sent. */
-    boolean wasQueued() {
-        return wasQueued;
+    /** A call for which no thread waits before the next is made; who is told once it has ended may be null. */
+    static Call ahead(byte[] frame, long due, Owner owner) {
+        return new Call(frame, due, false, owner);
+    }
+
+    /** A call that sends nothing, and ends once there is a connection. */
+    static Call opener(long due) {
+        return new Call(NO_FRAME, due, true, null);
+    }
+
+    boolean isOpener() {
+        return frame.length == 0;
     }
 
     boolean isOverdue(long now) {
         return now - due >= 0;
     }
 
-    long millisLeft() {
-        return Math.max(1, TimeUnit.NANOSECONDS.toMillis(due - System.nanoTime()) + 1);
+    boolean isDone() {
+        return outcome != null;
     }
 
-    /** The reply, waited for by a thread that may wait. */
-    Wire.Reply await() {
-        try {
-            return super.join();
-        } catch (CompletionException error) {
-            if (error.getCause() instanceof DchmException end) {
-                throw end.here();
-            }
-            throw error;
+    /** Ends the call, which hasn't ended, by a reply or an exception. */
+    void end(Object how) {
+        if (outcome != null) {
+            throw new IllegalStateException("a call ends once: " + outcome + ", then " + how);
+        }
+        outcome = how;
+    }
+
+    /** Tells that it has ended. */
+    void tell() {
+        Thread thread = waiter;
+        if (thread != null) {
+            LockSupport.unpark(thread);
+        }
+        if (owner != null) {
+            owner.ended();
         }
     }
 
-    /** Tells the call that its connection has ended. */
-    void lose(boolean wasSent, Throwable why) {
-        if (!wasSent) {
-            String message = "the connection ended before it was sent: " + why.getMessage();
-            completeExceptionally(new NotMadeException(message, why));
+    /** From here on this thread is woken once the call has ended. */
+    void isWaitedForHere() {
+        waiter = Thread.currentThread();
+    }
+
+    /** Waits so long at most, until it has ended or the thread is interrupted; perhaps less. */
+    void park(long nanos) {
+        if (!(Thread.currentThread() instanceof ForkJoinWorkerThread)) {
+            LockSupport.parkNanos(this, nanos);
             return;
         }
-        String message = "it was sent, and no reply came: " + why.getMessage();
-        completeExceptionally(isChange ? new OutcomeOpenException(message, why)
-            : new NotMadeException(message, why));
+        try {
+            // Others go on in the place of a pool's thread that waits.
+            ForkJoinPool.managedBlock(new ForkJoinPool.ManagedBlocker() {
+                @Override
+                public boolean block() {
+                    LockSupport.parkNanos(Call.this, nanos);
+                    return true;
+                }
+
+                @Override
+                public boolean isReleasable() {
+                    return isDone();
+                }
+            });
+        } catch (InterruptedException error) {
+            Thread.currentThread().interrupt();
+        }
+    }
+
+    /** The reply of a call that has ended. */
+    Wire.Reply reply() {
+        if (outcome instanceof DchmException end) {
+            throw end.here();
+        }
+        return (Wire.Reply) outcome;
+    }
+
+    // ---- what is said of a call that has no reply
+
+    private String named(String what) {
+        if (isOpener()) {
+            return what;
+        }
+        String key = Wire.keyOf(frame);
+        return Wire.methodOf(frame) + (Wire.isOfKey(frame) ? " of \"" + shortened(key) + "\"" : "") + ": " + what;
+    }
+
+    private static String shortened(String key) {
+        return key.length() <= 100 ? key : key.substring(0, 100) + "..";
+    }
+
+    /** The end of a call of which the server has nothing, or that changes nothing. */
+    NotMadeException notMade(String what, Throwable why) {
+        return new NotMadeException(named(what), why);
+    }
+
+    /** The end of a call that was sent and has no reply. */
+    DchmException lost(String what, Throwable why) {
+        return isChange ? new OutcomeOpenException(named(what), why, frame) : notMade(what, why);
     }
 }

@@ -1,14 +1,12 @@
 package dchm.client;
 
-import java.io.IOException;
+import java.net.InetAddress;
 import java.net.InetSocketAddress;
 import java.net.SocketAddress;
 import java.net.UnixDomainSocketAddress;
+import java.net.UnknownHostException;
 import java.nio.file.Path;
 import java.time.Duration;
-import java.util.Arrays;
-import java.util.Set;
-import java.util.concurrent.ConcurrentHashMap;
 import java.util.concurrent.Executor;
 
 /**
@@ -16,47 +14,42 @@ import java.util.concurrent.Executor;
  * otherwise, opened when it is needed and ended when it is idle. Each connection takes a place of the server
  * ({@code --connections}).
  */
-public final class DchmClient implements AutoCloseable {
-    private static final byte[] LOCALHOST = {127, 0, 0, 1};
-    /** How often a call looks for a connection, if each that it finds ends before anything is sent. */
-    private static final int MOST_TURNS = 8;
-    private final Builder options;
-    private final Lane[] lanes;
-    /** The connections of calls of the whole map that are under way. */
-    private final Set<Connection> wholeMap = ConcurrentHashMap.newKeySet();
-    private volatile boolean isClosed;
-
+public interface DchmClient extends AutoCloseable {
     /**
-     * How a client is to be. Each method changes one thing and returns the builder. A client that is connected keeps the
-     * options that it was connected with. A time above 100 years counts as 100 years.
+     * How a client is to be. Each method changes one thing and returns the builder. A client keeps the options that it
+     * was made with. A time above 100 years counts as 100 years.
      */
-    public static final class Builder {
+    final class Builder {
         private static final Duration LONGEST = Duration.ofDays(36_500);
-        private final SocketAddress address;
-        private int connections = 1;
-        private int inFlight = 256;
-        private Duration connectTimeout = Duration.ofSeconds(5);
-        private Duration timeout = Duration.ofSeconds(30);
-        private Duration wholeMapTimeout = Duration.ofMinutes(5);
-        private Duration idle = Duration.ofSeconds(30);
-        private boolean hasReadLane;
-        private Executor callbacks;
+        final SocketAddress address;
+        int connections = 1;
+        int inFlight = 256;
+        int waiting = 100_000;
+        Duration connectTimeout = Duration.ofSeconds(5);
+        Duration timeout = Duration.ofSeconds(30);
+        Duration wholeMapTimeout = Duration.ofMinutes(5);
+        Duration idle = Duration.ofSeconds(30);
+        boolean hasReadLane;
+        Executor callbacks;
+        DchmListener listener;
 
         private Builder(SocketAddress address) {
             this.address = address;
         }
 
         /** The same options, of which a later change of the other builder changes nothing. */
-        private Builder(Builder other) {
+        Builder(Builder other) {
             address = other.address;
             connections = other.connections;
             inFlight = other.inFlight;
+            waiting = other.waiting;
             connectTimeout = other.connectTimeout;
             timeout = other.timeout;
             wholeMapTimeout = other.wholeMapTimeout;
             idle = other.idle;
             hasReadLane = other.hasReadLane;
             callbacks = other.callbacks;
+            listener = other.listener;
         }
 
         private static int positive(int number) {
@@ -85,7 +78,7 @@ public final class DchmClient implements AutoCloseable {
         }
 
         /**
-         * How many requests a connection has under way at most; 256 if left out. Whoever sends one more waits.
+         * How many requests a connection has under way at most; 256 if left out. Further calls wait for a place.
          *
          * @param most the number, at least 1
          * @return this builder
@@ -96,7 +89,20 @@ public final class DchmClient implements AutoCloseable {
         }
 
         /**
-         * How long to wait until the server serves a new connection; 5 seconds if left out.
+         * How many asynchronous calls of a connection wait for a place at most; 100,000 if left out. One more ends with
+         * a NotMadeException.
+         *
+         * @param most the number, at least 1
+         * @return this builder
+         */
+        public Builder waiting(int most) {
+            waiting = positive(most);
+            return this;
+        }
+
+        /**
+         * How long to wait until the server serves a new connection; 5 seconds if left out. All calls that need one
+         * share the attempt.
          *
          * @param most the time, above 0
          * @return this builder
@@ -107,8 +113,8 @@ public final class DchmClient implements AutoCloseable {
         }
 
         /**
-         * How long to wait for a reply; 30 seconds if left out. Replies come in order, so one that is overdue ends its
-         * connection.
+         * How long a call may take; 30 seconds if left out. It counts from the call's begin, for a place, for a
+         * connection, for sending and for the reply. Replies come in order, so one that is overdue ends its connection.
          *
          * @param most the time, above 0
          * @return this builder
@@ -119,7 +125,7 @@ public final class DchmClient implements AutoCloseable {
         }
 
         /**
-         * How long to wait for the reply to a call of the whole map; 5 minutes if left out.
+         * How long a call of the whole map may take; 5 minutes if left out.
          *
          * @param most the time, above 0
          * @return this builder
@@ -153,8 +159,8 @@ public final class DchmClient implements AutoCloseable {
         }
 
         /**
-         * What runs the callbacks of the asynchronous map. If it is left out, the thread does that reads the replies,
-         * and a callback must not wait.
+         * What completes the futures of the asynchronous map, so that their callbacks run there; the common pool if left
+         * out. What it refuses to run, the common pool does.
          *
          * @param executor what runs them
          * @return this builder
@@ -165,50 +171,41 @@ public final class DchmClient implements AutoCloseable {
         }
 
         /**
+         * Who is told of calls and of connections; nobody if left out.
+         *
+         * @param told the listener
+         * @return this builder
+         */
+        public Builder listener(DchmListener told) {
+            listener = told;
+            return this;
+        }
+
+        /**
          * Connects.
          *
          * @return a client whose first connection was answered
          * @throws NotMadeException if there is no server, its store has failed, or it has no place in time
          */
         public DchmClient connect() {
-            DchmClient client = new DchmClient(this);
-            client.lanes[0].connection();
-            return client;
-        }
-
-        private Connection open() {
-            return Connection.open(address, connectTimeout.toNanos(), new Connection.Limits(inFlight, idle.toNanos()));
-        }
-    }
-
-    /** The place of a connection, which is opened anew if it has ended. */
-    private final class Lane {
-        private volatile Connection current;
-
-        Connection connection() {
-            Connection found = current;
-            return found != null && !found.isBroken() ? found : renewed();
-        }
-
-        private synchronized Connection renewed() {
-            refuseIfClosed();
-            if (current == null || current.isBroken()) {
-                current = options.open();
-            }
-            return current;
-        }
-
-        synchronized void end() {
-            if (current != null) {
-                current.fail(new IOException("the client was closed"));
+            ServerClient client = new ServerClient(this);
+            try {
+                client.open();
+                return client;
+            } catch (DchmException error) {
+                client.close();
+                throw error;
             }
         }
-    }
 
-    private DchmClient(Builder chosen) {
-        options = new Builder(chosen);
-        lanes = new Lane[options.hasReadLane ? 2 * options.connections : options.connections];
-        Arrays.setAll(lanes, number -> new Lane());
+        /**
+         * A client that connects with its first call. There need be no server yet.
+         *
+         * @return the client
+         */
+        public DchmClient lazy() {
+            return new ServerClient(this);
+        }
     }
 
     /**
@@ -217,10 +214,10 @@ public final class DchmClient implements AutoCloseable {
      * @param port the port
      * @return a builder, with which its options are chosen
      */
-    public static Builder at(int port) {
+    static Builder at(int port) {
         try {
-            return new Builder(new InetSocketAddress(java.net.InetAddress.getByAddress(LOCALHOST), port));
-        } catch (java.net.UnknownHostException error) {
+            return new Builder(new InetSocketAddress(InetAddress.getByAddress(new byte[] {127, 0, 0, 1}), port));
+        } catch (UnknownHostException error) {
             throw new AssertionError(error);
         }
     }
@@ -231,7 +228,7 @@ public final class DchmClient implements AutoCloseable {
      * @param socket the path of the socket
      * @return a builder, with which its options are chosen
      */
-    public static Builder at(Path socket) {
+    static Builder at(Path socket) {
         return new Builder(UnixDomainSocketAddress.of(socket));
     }
 
@@ -242,7 +239,7 @@ public final class DchmClient implements AutoCloseable {
      * @return a client whose first connection was answered
      * @throws NotMadeException if there is no server, its store has failed, or it has no place in time
      */
-    public static DchmClient connect(int port) {
+    static DchmClient connect(int port) {
         return at(port).connect();
     }
 
@@ -253,7 +250,7 @@ public final class DchmClient implements AutoCloseable {
      * @return a client whose first connection was answered
      * @throws NotMadeException if there is no server, its store has failed, or it has no place in time
      */
-    public static DchmClient connect(Path socket) {
+    static DchmClient connect(Path socket) {
         return at(socket).connect();
     }
 
@@ -262,134 +259,35 @@ public final class DchmClient implements AutoCloseable {
      *
      * @return the map; each value is a Long or a String
      */
-    public DchmMap<Object> map() {
-        return new DchmMap<>(this, Object.class);
-    }
+    DchmMap<Object> map();
 
     /**
      * The map as one of numbers. Nothing is sent. A text that a call meets is a ClassCastException.
      *
      * @return the map
      */
-    public DchmMap<Long> longs() {
-        return new DchmMap<>(this, Long.class);
-    }
+    DchmMap<Long> longs();
 
     /**
      * The map as one of texts. Nothing is sent. A number that a call meets is a ClassCastException.
      *
      * @return the map
      */
-    public DchmMap<String> texts() {
-        return new DchmMap<>(this, String.class);
-    }
+    DchmMap<String> texts();
 
     /**
      * The map with numbers and texts as values, whose calls return at once. Nothing is sent.
      *
      * @return the map
      */
-    public AsyncDchmMap<Object> async() {
+    default AsyncDchmMap<Object> async() {
         return map().async();
     }
 
     /**
-     * Ends the connections. Each change that is under way ends with an OutcomeOpenException, each read with a
-     * NotMadeException, and each later call with an IllegalStateException.
+     * Ends the connections. It waits for nothing. Each change that is under way ends with an OutcomeOpenException, each
+     * read with a NotMadeException, and each later call with an IllegalStateException.
      */
     @Override
-    public void close() {
-        isClosed = true;
-        for (Lane lane : lanes) {
-            lane.end();
-        }
-        wholeMap.forEach(connection -> connection.fail(new IOException("the client was closed")));
-    }
-
-    private void refuseIfClosed() {
-        if (isClosed) {
-            throw new IllegalStateException("the client is closed");
-        }
-    }
-
-    /** Whether a connection is there that has not ended. */
-    boolean hasConnection() {
-        return Arrays.stream(lanes).anyMatch(lane -> lane.current != null && !lane.current.isBroken());
-    }
-
-    Executor callbacks() {
-        return options.callbacks;
-    }
-
-    private Lane laneOf(byte[] key, byte[] frame) {
-        int number = options.connections == 1 ? 0 : Math.floorMod(Arrays.hashCode(key), options.connections);
-        return lanes[options.hasReadLane && !Wire.isChange(frame) ? options.connections + number : number];
-    }
-
-    /** A call, and the connection over which it was sent; null if there is none, and then the call has ended. */
-    private record Sent(Call call, Connection connection) {
-        Wire.Reply reply() {
-            return connection == null ? call.await() : connection.reply(call);
-        }
-    }
-
-    /** Sends a request of a key. One of which nothing was sent, as its connection had ended, goes over the next. */
-    private Sent send(byte[] key, byte[] frame, boolean isAwaited) {
-        Lane lane = laneOf(key, frame);
-        Sent sent = null;
-        for (int turn = 0; turn < MOST_TURNS; turn++) {
-            Call call = new Call(frame, options.timeout.toNanos(), isAwaited);
-            try {
-                sent = new Sent(call, lane.connection());
-            } catch (NotMadeException error) {
-                call.completeExceptionally(error);
-                return new Sent(call, null);
-            }
-            sent.connection.send(call);
-            if (call.wasQueued() || !sent.connection.isBroken()) {
-                return sent;
-            }
-        }
-        return sent;
-    }
-
-    /** Sends a request of a key, for which nobody waits. */
-    Call send(byte[] key, byte[] frame) {
-        return send(key, frame, false).call;
-    }
-
-    /** Sends a request of a key and waits for the reply. A read whose connection ends is sent once more. */
-    Wire.Reply ask(byte[] key, byte[] frame) {
-        Connection.refuseOnReader();
-        refuseIfClosed();
-        long due = System.nanoTime() + options.timeout.toNanos();
-        Sent sent = send(key, frame, true);
-        try {
-            return Told.checked(sent.reply(), frame);
-        } catch (NotMadeException error) {
-            boolean wasLost = sent.call.wasQueued() && sent.call.isCompletedExceptionally();
-            if (Wire.isChange(frame) || !wasLost || System.nanoTime() - due >= 0) {
-                throw error;
-            }
-            return Told.checked(send(key, frame, true).reply(), frame);
-        }
-    }
-
-    /** Makes a call of the whole map over a connection of its own, since what is sent behind it would wait for it. */
-    Wire.Reply askWhole(byte[] frame) {
-        Connection.refuseOnReader();
-        refuseIfClosed();
-        Connection connection = options.open();
-        wholeMap.add(connection);
-        try {
-            // From here on a client that is closed ends it.
-            refuseIfClosed();
-            Call call = new Call(frame, options.wholeMapTimeout.toNanos(), true);
-            connection.send(call);
-            return Told.checked(connection.reply(call), frame);
-        } finally {
-            wholeMap.remove(connection);
-            connection.fail(new IOException("the call is done"));
-        }
-    }
+    void close();
 }

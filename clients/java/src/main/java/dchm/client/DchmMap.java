@@ -1,12 +1,8 @@
 package dchm.client;
 
-import java.util.ArrayList;
-import java.util.Collection;
-import java.util.List;
+import java.util.Comparator;
 import java.util.Map;
-import java.util.Objects;
 import java.util.OptionalLong;
-import java.util.Set;
 import java.util.concurrent.ConcurrentMap;
 import java.util.function.BiFunction;
 
@@ -28,33 +24,20 @@ import java.util.function.BiFunction;
  * <p>There is no iteration. {@code keySet}, {@code values}, {@code entrySet}, {@code forEach}, {@code replaceAll} and
  * {@code clear} throw UnsupportedOperationException; {@code equals} and {@code hashCode} are those of Object.
  *
+ * <p>For the tests of a program this is a map without a server:
+ * {@code class Fake<V> extends ConcurrentHashMap<String, V> implements DchmMap<V>}.
+ *
  * @param <V> the class of the values: Long, String, or Object for both
  */
-public final class DchmMap<V> implements ConcurrentMap<String, V> {
-    private static final long ONE_THREAD = Long.MAX_VALUE;
-    private final DchmClient client;
-    private final Class<V> kind;
-
-    DchmMap(DchmClient client, Class<V> kind) {
-        this.client = client;
-        this.kind = kind;
-    }
-
+public interface DchmMap<V> extends ConcurrentMap<String, V> {
     /**
-     * The same map, whose calls return at once. Nothing is sent.
+     * The same map, whose calls return at once. Nothing is sent. Of a map that doesn't override it, such as one of a
+     * test, each call has been made when it returns.
      *
      * @return the asynchronous map
      */
-    public AsyncDchmMap<V> async() {
-        return new AsyncDchmMap<>(client, kind);
-    }
-
-    private V valueOf(byte[] key, byte[] frame) {
-        return Wire.told(kind, client.ask(key, frame).value());
-    }
-
-    private boolean isHoldable(Object value) {
-        return kind.isInstance(value) && Wire.isHoldable(value);
+    default AsyncDchmMap<V> async() {
+        return new ImmediateMap<>(this);
     }
 
     // ---- the methods of a key
@@ -66,10 +49,7 @@ public final class DchmMap<V> implements ConcurrentMap<String, V> {
      * @return the value, or null if there is none
      */
     @Override
-    public V get(Object key) {
-        byte[] bytes = Wire.keyOrNull(key);
-        return bytes == null ? null : valueOf(bytes, Wire.request(Wire.GET, bytes));
-    }
+    V get(Object key);
 
     /**
      * The value of a key, or another one. It is a Get, so the other value may be null or any value.
@@ -79,10 +59,7 @@ public final class DchmMap<V> implements ConcurrentMap<String, V> {
      * @return the value
      */
     @Override
-    public V getOrDefault(Object key, V otherwise) {
-        V value = get(key);
-        return value == null ? otherwise : value;
-    }
+    V getOrDefault(Object key, V otherwise);
 
     /**
      * Whether a key has a value.
@@ -91,10 +68,7 @@ public final class DchmMap<V> implements ConcurrentMap<String, V> {
      * @return whether it has one
      */
     @Override
-    public boolean containsKey(Object key) {
-        byte[] bytes = Wire.keyOrNull(key);
-        return bytes != null && client.ask(bytes, Wire.request(Wire.CONTAINS_KEY, bytes)).isDone();
-    }
+    boolean containsKey(Object key);
 
     /**
      * Maps a key to a value.
@@ -104,10 +78,7 @@ public final class DchmMap<V> implements ConcurrentMap<String, V> {
      * @return the value before, or null
      */
     @Override
-    public V put(String key, V value) {
-        byte[] bytes = Wire.key(key);
-        return valueOf(bytes, Wire.request(Wire.PUT, bytes, Wire.checked(kind, value)));
-    }
+    V put(String key, V value);
 
     /**
      * Maps a key to a value if it has none. If nobody else uses the value, it may be repeated after an open outcome:
@@ -118,10 +89,7 @@ public final class DchmMap<V> implements ConcurrentMap<String, V> {
      * @return the value before, or null if the change was made
      */
     @Override
-    public V putIfAbsent(String key, V value) {
-        byte[] bytes = Wire.key(key);
-        return valueOf(bytes, Wire.request(Wire.PUT_IF_ABSENT, bytes, Wire.checked(kind, value)));
-    }
+    V putIfAbsent(String key, V value);
 
     /**
      * Unmaps a key.
@@ -130,10 +98,7 @@ public final class DchmMap<V> implements ConcurrentMap<String, V> {
      * @return the value before, or null
      */
     @Override
-    public V remove(Object key) {
-        byte[] bytes = Wire.keyOrNull(key);
-        return bytes == null ? null : valueOf(bytes, Wire.request(Wire.REMOVE, bytes));
-    }
+    V remove(Object key);
 
     /**
      * Unmaps a key if it has this value.
@@ -143,11 +108,7 @@ public final class DchmMap<V> implements ConcurrentMap<String, V> {
      * @return whether it was done
      */
     @Override
-    public boolean remove(Object key, Object value) {
-        byte[] bytes = Wire.keyOrNull(key);
-        return bytes != null && isHoldable(value)
-            && client.ask(bytes, Wire.request(Wire.REMOVE_IF, bytes, value)).isDone();
-    }
+    boolean remove(Object key, Object value);
 
     /**
      * Maps a key to another value if it has one.
@@ -157,26 +118,29 @@ public final class DchmMap<V> implements ConcurrentMap<String, V> {
      * @return the value before, or null if there was none
      */
     @Override
-    public V replace(String key, V value) {
-        byte[] bytes = Wire.key(key);
-        return valueOf(bytes, Wire.request(Wire.REPLACE, bytes, Wire.checked(kind, value)));
-    }
+    V replace(String key, V value);
 
     /**
      * Maps a key to another value if it has the old one. If the old value never comes back, it may be repeated after an
      * open outcome.
      *
      * @param key the key
-     * @param old the old value
+     * @param old the old value; with one that no server can hold, nothing is sent
      * @param value the new value
      * @return whether it was done
      */
     @Override
-    public boolean replace(String key, V old, V value) {
-        byte[] bytes = Wire.key(key);
-        byte[] frame = Wire.request(Wire.REPLACE_IF, bytes, Wire.checked(kind, old), Wire.checked(kind, value));
-        return client.ask(bytes, frame).isDone();
-    }
+    boolean replace(String key, V old, V value);
+
+    /**
+     * Puts each entry, sent ahead. It is not one change: if it throws, each entry may have been put or not, unless one
+     * is null or can't be held, and then nothing was sent.
+     *
+     * @param entries the entries
+     * @throws OutcomeOpenException if entries are open, whatever came of the others; it names them
+     */
+    @Override
+    void putAll(Map<? extends String, ? extends V> entries);
 
     /**
      * Merges a value into that of a key. With an {@link Fn} it is one call of the server. Any other function is applied
@@ -192,18 +156,8 @@ public final class DchmMap<V> implements ConcurrentMap<String, V> {
      * @throws ClassCastException also if the function doesn't take the old value. Nothing changed.
      */
     @Override
-    public V merge(String key, V value, BiFunction<? super V, ? super V, ? extends V> function) {
-        if (!(function instanceof Fn<?> named)) {
-            return ConcurrentMap.super.merge(key, value, function);
-        }
-        byte[] bytes = Wire.key(key);
-        return valueOf(bytes, Wire.request(Wire.MERGE, bytes, named, Wire.checked(kind, value)));
-    }
-
-    private V computed(int method, String key, Fn<V> function, V argument) {
-        byte[] bytes = Wire.key(key);
-        Object sent = argument == null ? Wire.ABSENT : Wire.checked(kind, argument);
-        return valueOf(bytes, Wire.request(method, bytes, function, sent));
+    default V merge(String key, V value, BiFunction<? super V, ? super V, ? extends V> function) {
+        return ConcurrentMap.super.merge(key, value, function);
     }
 
     /**
@@ -216,8 +170,8 @@ public final class DchmMap<V> implements ConcurrentMap<String, V> {
      * @return the new value, or null
      * @throws ArithmeticException if a sum by SUM_EXACT has more than 64 bits. Nothing changed.
      */
-    public V compute(String key, Fn<V> function, V argument) {
-        return computed(Wire.COMPUTE, key, function, argument);
+    default V compute(String key, Fn<V> function, V argument) {
+        return compute(key, (same, old) -> function.applied(old, argument));
     }
 
     /**
@@ -228,8 +182,8 @@ public final class DchmMap<V> implements ConcurrentMap<String, V> {
      * @param argument its argument; null for a function that needs none
      * @return the value that the key has now, or null
      */
-    public V computeIfAbsent(String key, Fn<V> function, V argument) {
-        return computed(Wire.COMPUTE_IF_ABSENT, key, function, argument);
+    default V computeIfAbsent(String key, Fn<V> function, V argument) {
+        return computeIfAbsent(key, same -> function.applied(null, argument));
     }
 
     /**
@@ -241,35 +195,8 @@ public final class DchmMap<V> implements ConcurrentMap<String, V> {
      * @return the new value, or null
      * @throws ArithmeticException if a sum by SUM_EXACT has more than 64 bits. Nothing changed.
      */
-    public V computeIfPresent(String key, Fn<V> function, V argument) {
-        return computed(Wire.COMPUTE_IF_PRESENT, key, function, argument);
-    }
-
-    /**
-     * Puts each entry, sent ahead. It is not one change: if it throws, each entry may have been put or not.
-     *
-     * @param entries the entries
-     * @throws OutcomeOpenException if the outcome of an entry is open, whatever came of the others
-     */
-    @Override
-    public void putAll(Map<? extends String, ? extends V> entries) {
-        Connection.refuseOnReader();
-        List<Call> puts = new ArrayList<>();
-        entries.forEach((key, value) -> {
-            byte[] bytes = Wire.key(key);
-            puts.add(client.send(bytes, Wire.request(Wire.PUT, bytes, Wire.checked(kind, value))));
-        });
-        RuntimeException told = null;
-        for (Call put : puts) {
-            try {
-                Wire.told(kind, Told.checked(put.await(), put.frame).value());
-            } catch (RuntimeException error) {
-                told = told == null || error instanceof OutcomeOpenException ? error : told;
-            }
-        }
-        if (told != null) {
-            throw told;
-        }
+    default V computeIfPresent(String key, Fn<V> function, V argument) {
+        return computeIfPresent(key, (same, old) -> function.applied(old, argument));
     }
 
     // ---- the whole map
@@ -279,40 +206,8 @@ public final class DchmMap<V> implements ConcurrentMap<String, V> {
      *
      * @return the number
      */
-    public long mappingCount() {
-        return (Long) client.askWhole(Wire.count()).value();
-    }
-
-    /**
-     * As {@link #mappingCount}.
-     *
-     * @return the number, or the greatest int if it is greater
-     */
-    @Override
-    public int size() {
-        return (int) Math.min(mappingCount(), Integer.MAX_VALUE);
-    }
-
-    /**
-     * Whether no key has a value. It costs as much as {@link #mappingCount}.
-     *
-     * @return whether the map is empty
-     */
-    @Override
-    public boolean isEmpty() {
-        return mappingCount() == 0;
-    }
-
-    /**
-     * Whether a key has this value. The server goes over its whole map.
-     *
-     * @param value the value
-     * @return whether there is one
-     */
-    @Override
-    public boolean containsValue(Object value) {
-        return isHoldable(Objects.requireNonNull(value, "a value is null"))
-            && client.askWhole(Wire.search(ONE_THREAD, value)).value() != null;
+    default long mappingCount() {
+        return size();
     }
 
     /**
@@ -321,8 +216,9 @@ public final class DchmMap<V> implements ConcurrentMap<String, V> {
      * @param value the value
      * @return the key, or null
      */
-    public String search(V value) {
-        return (String) client.askWhole(Wire.search(ONE_THREAD, Wire.checked(kind, value))).value();
+    default String search(V value) {
+        return entrySet().stream().filter(entry -> entry.getValue().equals(value)).map(Map.Entry::getKey)
+            .min(Comparator.comparing(Wire::key, java.util.Arrays::compareUnsigned)).orElse(null);
     }
 
     /**
@@ -332,67 +228,7 @@ public final class DchmMap<V> implements ConcurrentMap<String, V> {
      * @return the result, empty if the map is
      * @throws ClassCastException if a value is a text
      */
-    public OptionalLong reduceToLong(Fn<Long> function) {
-        Long value = (Long) client.askWhole(Wire.reduce(function, ONE_THREAD)).value();
-        return value == null ? OptionalLong.empty() : OptionalLong.of(value);
-    }
-
-    // ---- what isn't there
-
-    private static UnsupportedOperationException noIteration() {
-        return new UnsupportedOperationException("the protocol has no iteration");
-    }
-
-    /**
-     * Not there.
-     *
-     * @return nothing
-     * @throws UnsupportedOperationException always
-     */
-    @Override
-    public Set<String> keySet() {
-        throw noIteration();
-    }
-
-    /**
-     * Not there.
-     *
-     * @return nothing
-     * @throws UnsupportedOperationException always
-     */
-    @Override
-    public Collection<V> values() {
-        throw noIteration();
-    }
-
-    /**
-     * Not there.
-     *
-     * @return nothing
-     * @throws UnsupportedOperationException always
-     */
-    @Override
-    public Set<Map.Entry<String, V>> entrySet() {
-        throw noIteration();
-    }
-
-    /**
-     * Not there.
-     *
-     * @throws UnsupportedOperationException always
-     */
-    @Override
-    public void clear() {
-        throw noIteration();
-    }
-
-    /**
-     * The name of the map, without its entries.
-     *
-     * @return such as {@code DchmMap<Long>}
-     */
-    @Override
-    public String toString() {
-        return "DchmMap<" + kind.getSimpleName() + ">";
+    default OptionalLong reduceToLong(Fn<Long> function) {
+        return values().stream().map(Long.class::cast).reduce(function).map(OptionalLong::of).orElse(OptionalLong.empty());
     }
 }

@@ -91,6 +91,15 @@ public final class Fn<V> implements BinaryOperator<V> {
         return local.apply(old, argument);
     }
 
+    /** What Compute gives of the old value, null if there is none, and the argument. */
+    V applied(V old, V argument) {
+        if (old != null) {
+            return apply(old, argument);
+        }
+        boolean isNone = this == DROP || this == KEEP || this == (Fn<?>) SUM_NONZERO && Long.valueOf(0).equals(argument);
+        return isNone ? null : argument;
+    }
+
     /**
      * The name.
      *

@@ -5,7 +5,7 @@ package dchm.client;
  * disk, and many reads go faster together. So what threads call meanwhile is written as one row behind the reply. The
  * row waits a little for the threads that were answered, as they call again.
  *
- * <p>All but {@link #await} is kept by the lock of the queue.
+ * <p>It is kept by the lock of the lane, but for {@link #isExpecting}.
  */
 final class Gathering {
     /** How long a row waits at most, for each call of it and in all: a thread takes so long to be woken. */
@@ -39,13 +39,14 @@ final class Gathering {
         return queued >= expected;
     }
 
-    /** Waits until nothing is expected, or no longer. The thread that reads replies alone calls it. */
-    void await() {
-        long begin = System.nanoTime();
-        long most = Math.min(MOST_NANOS, expected * NANOS_A_CALL);
-        while (expected > 0 && System.nanoTime() - begin < most) {
-            Thread.yield();
-        }
+    /** Whether more is expected. */
+    boolean isExpecting() {
+        return expected > 0;
+    }
+
+    /** How long to wait for it at most. */
+    long mostNanos() {
+        return Math.min(MOST_NANOS, expected * NANOS_A_CALL);
     }
 
     /** What is queued waits no longer. */

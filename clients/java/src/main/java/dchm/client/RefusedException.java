@@ -3,6 +3,7 @@ package dchm.client;
 /** The server refused the call. Nothing changed, and nothing is open. */
 public final class RefusedException extends DchmException {
     private static final long serialVersionUID = 1;
+    /** The number of the refusal. */
     private final int number;
 
     RefusedException(int number) {

@@ -18,7 +18,7 @@ final class Told {
             throw new RefusedException(number);
         }
         String message = "refused 9 Failed: the store has failed; the server has to be restarted";
-        throw Wire.isChange(frame) ? new OutcomeOpenException(message, null) : new NotMadeException(message, null);
+        throw Wire.isChange(frame) ? new OutcomeOpenException(message, null, frame) : new NotMadeException(message, null);
     }
 
     private static RuntimeException fault(int number) {

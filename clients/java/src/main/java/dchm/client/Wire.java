@@ -2,6 +2,7 @@ package dchm.client;
 
 import java.nio.ByteBuffer;
 import java.nio.charset.StandardCharsets;
+import java.util.Arrays;
 import java.util.Map;
 
 /** The bytes of requests and replies, as docs/PROTOCOL.md has them. */
@@ -21,7 +22,15 @@ final class Wire {
     static final Object ABSENT = new Object();
     private static final int KIND_ABSENT = 0, KIND_NUMBER = 1, KIND_TEXT = 2;
     private static final int NO_FUNCTION = 0;
+    /** Where a key begins in a frame: behind the frame's length, the method and the key's length. */
+    private static final int KEY_START = 5;
     private static final byte[] ABSENT_BYTES = {KIND_ABSENT};
+    private static final Map<Integer, String> METHODS = Map.ofEntries(Map.entry(GET, "get"),
+        Map.entry(CONTAINS_KEY, "containsKey"), Map.entry(PUT, "put"), Map.entry(PUT_IF_ABSENT, "putIfAbsent"),
+        Map.entry(REMOVE, "remove"), Map.entry(REMOVE_IF, "remove"), Map.entry(REPLACE, "replace"),
+        Map.entry(REPLACE_IF, "replace"), Map.entry(COMPUTE, "compute"), Map.entry(COMPUTE_IF_ABSENT, "computeIfAbsent"),
+        Map.entry(COMPUTE_IF_PRESENT, "computeIfPresent"), Map.entry(MERGE, "merge"), Map.entry(COUNT, "mappingCount"),
+        Map.entry(REDUCE, "reduceToLong"), Map.entry(SEARCH, "search"));
     private static final Map<Integer, String> REFUSALS = Map.of(1, "NullValue", 2, "KeyTooLong", 3, "ValueTooLong",
         4, "UnknownMethod", 5, "UnknownFunction", 6, "BadFrame", NO_MEMORY, "NoMemory", FAILED, "Failed",
         10, "TicketsSpent", 18, "NotText");
@@ -74,6 +83,11 @@ final class Wire {
         }
         byte[] bytes = value instanceof String text ? utf8(text) : null;
         return bytes != null && bytes.length <= TEXT_LIMIT;
+    }
+
+    /** Refuses a value that is of another class, or that no server can hold. */
+    static void requireHoldable(Class<?> kind, Object value) {
+        valueBytes(checked(kind, value));
     }
 
     /** The value, if it is one of the class. */
@@ -170,6 +184,30 @@ final class Wire {
         return frame[2] >= PUT && frame[2] <= MERGE;
     }
 
+    /** The name of the request's method. */
+    static String methodOf(byte[] frame) {
+        return METHODS.getOrDefault((int) frame[2], "method " + frame[2]);
+    }
+
+    /** Whether the request is one of a key, and not of the whole map. */
+    static boolean isOfKey(byte[] frame) {
+        return frame[2] < COUNT;
+    }
+
+    /** The bytes of the request's key; none for a method of the whole map. */
+    static byte[] keyBytesOf(byte[] frame) {
+        if (frame.length < KEY_START || !isOfKey(frame)) {
+            return new byte[0];
+        }
+        int length = (frame[KEY_START - 2] & 0xFF) << 8 | frame[KEY_START - 1] & 0xFF;
+        return Arrays.copyOfRange(frame, KEY_START, Math.min(KEY_START + length, frame.length));
+    }
+
+    /** The key of the request; empty for a method of the whole map. */
+    static String keyOf(byte[] frame) {
+        return new String(keyBytesOf(frame), StandardCharsets.UTF_8);
+    }
+
     // ---- replies
 
     /** A reply: its status, and a Long, a String or null. */
@@ -177,6 +215,24 @@ final class Wire {
         boolean isDone() {
             return value.equals(1L);
         }
+    }
+
+    /** Whether the reply can be one to the request. */
+    static boolean fits(byte[] frame, Reply reply) {
+        int status = reply.status();
+        if (status > REFUSED) {
+            return true;
+        }
+        return switch (frame[2]) {
+            case GET -> status == NOW;
+            case CONTAINS_KEY, REMOVE_IF, REPLACE_IF -> status == DID;
+            case PUT, PUT_IF_ABSENT, REMOVE, REPLACE -> status == WAS;
+            case COMPUTE, COMPUTE_IF_ABSENT, COMPUTE_IF_PRESENT, MERGE -> status == NOW || status == FAULT;
+            case COUNT -> status == NOW && reply.value() instanceof Long;
+            case REDUCE -> status == FAULT || status == NOW && !(reply.value() instanceof String);
+            case SEARCH -> status == NOW && !(reply.value() instanceof Long);
+            default -> true;
+        };
     }
 
     /** The reply with this body, or null if the body is none of the protocol. */

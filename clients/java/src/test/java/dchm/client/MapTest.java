@@ -17,6 +17,8 @@ import java.util.concurrent.ConcurrentHashMap;
 import java.util.concurrent.ExecutorService;
 import java.util.concurrent.Executors;
 import java.util.concurrent.ForkJoinPool;
+import java.util.concurrent.atomic.AtomicBoolean;
+import java.util.concurrent.atomic.AtomicInteger;
 import org.junit.After;
 import org.junit.Before;
 import org.junit.Test;
@@ -255,7 +257,7 @@ public final class MapTest {
     }
 
     @Test
-    public void a_callback_that_waits_is_told_and_one_that_sends_is_not() {
+    public void callbacks_may_send_while_all_places_are_taken() {
         try (DchmClient other = server.options().inFlight(2).connect()) {
             AsyncDchmMap<Long> async = other.longs().async();
             List<CompletableFuture<Long>> chains = new ArrayList<>();
@@ -269,28 +271,15 @@ public final class MapTest {
     }
 
     @Test
-    public void a_callback_that_waits_on_the_reader_is_told() throws Exception {
+    public void a_callback_may_wait_for_each_kind_of_call() throws Exception {
         AsyncDchmMap<Object> async = map.async();
-        Thread here = Thread.currentThread();
-        assertTrue("no callback ran on the reader", Server.waitUntil(() -> {
-            List<Throwable> told = new ArrayList<>();
-            List<Thread> ran = new ArrayList<>();
-            async.put("a", 1L).thenAccept(old -> {
-                ran.add(Thread.currentThread());
-                for (Runnable waits : List.<Runnable>of(() -> map.get("a"), map::size, () -> async.get("b").join(),
-                    () -> map.putAll(Map.of("c", 1L)))) {
-                    try {
-                        waits.run();
-                    } catch (IllegalStateException error) {
-                        told.add(error);
-                    }
-                }
+        for (int i = 0; i < 20; i++) {
+            Object found = async.put("a", 1L).thenApply(old -> {
+                map.putAll(Map.of("c", 1L, "d", 2L));
+                return List.of(map.get("a"), map.size(), async.get("c").join(), async.mappingCount().join());
             }).join();
-            boolean wasReader = ran.get(0) != here;
-            assertEquals(wasReader ? 4 : 0, told.size());
-            map.remove("c");
-            return wasReader;
-        }));
+            assertEquals(List.of(1L, 3, 1L, 3L), found);
+        }
     }
 
     @Test
@@ -311,21 +300,49 @@ public final class MapTest {
     }
 
     @Test
-    public void a_thread_that_is_interrupted_breaks_nothing() throws Exception {
+    public void a_thread_that_is_interrupted_sends_nothing_and_breaks_nothing() throws Exception {
+        CompletableFuture<Object> ahead = map.async().put("a", 1L);
         Thread.currentThread().interrupt();
-        assertNull(map.put("a", 1L));
-        assertEquals(1L, map.get("a"));
-        try (DchmClient other = server.client()) {
-            assertEquals(1L, other.map().get("a"));
-        }
+        assertThrows(NotMadeException.class, () -> map.put("a", 2L));
+        assertThrows(NotMadeException.class, () -> map.get("a"));
+        assertThrows(NotMadeException.class, server::client);
         assertTrue(Thread.interrupted());
-        inThreads(4, () -> {
-            for (int i = 0; i < 50; i++) {
-                Thread.currentThread().interrupt();
-                client.longs().merge("a", 1L, Fn.SUM);
-            }
-        });
-        assertEquals(201L, map.get("a"));
+        assertNull(ahead.join());
+        assertEquals(1L, map.get("a"));
+    }
+
+    @Test
+    public void interrupts_end_calls_with_what_is_true_of_them() throws Exception {
+        AtomicInteger made = new AtomicInteger();
+        AtomicInteger open = new AtomicInteger();
+        AtomicBoolean goesOn = new AtomicBoolean(true);
+        List<Thread> threads = new ArrayList<>();
+        for (int i = 0; i < 4; i++) {
+            threads.add(Peer.inBackground(() -> {
+                while (goesOn.get()) {
+                    try {
+                        client.longs().merge("a", 1L, Fn.SUM);
+                        made.incrementAndGet();
+                    } catch (OutcomeOpenException error) {
+                        open.incrementAndGet();
+                    } catch (NotMadeException error) {
+                        // It isn't counted.
+                    }
+                    Thread.interrupted();
+                }
+            }));
+        }
+        for (int i = 0; i < 300; i++) {
+            threads.get(i % 4).interrupt();
+            client.longs().get("a");
+        }
+        goesOn.set(false);
+        for (Thread thread : threads) {
+            thread.join();
+        }
+        long counted = client.longs().get("a");
+        assertTrue(made + " were made, " + open + " are open, counted: " + counted,
+            counted >= made.get() && counted <= made.get() + open.get());
     }
 
     @Test

@@ -76,7 +76,7 @@ public final class OutcomeTest {
     public void a_reply_to_no_request_ends_the_connection() throws Exception {
         try (Server server = Server.standIn("merge a twice"); DchmClient client = server.client()) {
             assertEquals(1L, (long) client.longs().merge("a", 1L, Fn.SUM));
-            assertTrue("the connection never ends", Server.waitUntil(() -> !client.hasConnection()));
+            assertTrue("the connection never ends", Server.waitUntil(() -> !((ServerClient) client).hasConnection()));
             assertEquals(2L, (long) client.longs().merge("a", 1L, Fn.SUM));
         }
     }
@@ -307,7 +307,7 @@ public final class OutcomeTest {
     public void the_end_of_an_idle_connection_by_the_server_is_no_error() throws Exception {
         try (Server server = Server.standIn("put a quit"); DchmClient client = server.client()) {
             client.longs().put("a", 1L);
-            assertTrue("the connection never ends", Server.waitUntil(() -> !client.hasConnection()));
+            assertTrue("the connection never ends", Server.waitUntil(() -> !((ServerClient) client).hasConnection()));
             assertEquals(2L, (long) client.longs().merge("a", 1L, Fn.SUM));
         }
     }

@@ -166,7 +166,7 @@ public final class PageTest {
     }
 
     private static Object raw(DchmClient client, Row row) {
-        Wire.Reply reply = client.ask(new byte[0], row.request);
+        Wire.Reply reply = ((ServerClient) client).ask(new byte[0], row.request);
         return reply.status() == Wire.DID ? (Object) reply.isDone() : reply.value();
     }
 
@@ -182,7 +182,7 @@ public final class PageTest {
                     client.map().put("c", "x");
                 }
                 assertArrayEquals(row.toString(), row.request, whole(row));
-                assertEquals(row.toString(), told(row), came(() -> client.askWhole(row.request).value()));
+                assertEquals(row.toString(), told(row), came(() -> ((ServerClient) client).askWhole(row.request).value()));
                 wasSent(server, row);
                 played++;
             }
@@ -225,7 +225,7 @@ public final class PageTest {
                     // No request of a client, so its reply alone is one of the page's.
                     assertEquals(6, Wire.reply(Arrays.copyOfRange(row.reply, 2, 4)).status() - Wire.REFUSED);
                 } else {
-                    RefusedException refused = assertThrows(RefusedException.class, () -> client.ask(new byte[0], frame));
+                    RefusedException refused = assertThrows(RefusedException.class, () -> ((ServerClient) client).ask(new byte[0], frame));
                     assertEquals(row.toString(), row.reply[2] & 0x7F, refused.number());
                     assertEquals(row.toString(), refused.number() == 7, refused.mayTryAgain());
                     wasSent(server, row);
@@ -275,5 +275,22 @@ public final class PageTest {
             "030100000000000000", "03010000000000000004", "0400", "870000", "8701", "01020002616263")) {
             assertEquals(body, null, Wire.reply(HexFormat.of().parseHex(body)));
         }
+    }
+
+    @Test
+    public void a_reply_that_is_longer_than_any_is_none() throws Exception {
+        byte[] longest = new byte[2 + 4 + 4096];
+        java.nio.ByteBuffer.wrap(longest).putShort((short) (longest.length - 2)).put((byte) Wire.NOW).put((byte) 2).putShort((short) 4096);
+        List<Wire.Reply> replies = new java.util.ArrayList<>();
+        assertEquals(null, taken(longest, replies));
+        assertEquals(4096, ((String) replies.get(0).value()).length());
+        assertTrue(taken(new byte[] {16, 5, 1}, replies).startsWith("bytes that are no reply"));
+        assertEquals(1, replies.size());
+    }
+
+    private static String taken(byte[] bytes, List<Wire.Reply> replies) throws Exception {
+        Incoming in = new Incoming(8192);
+        in.readFrom(java.nio.channels.Channels.newChannel(new java.io.ByteArrayInputStream(bytes)));
+        return in.take(replies);
     }
 }

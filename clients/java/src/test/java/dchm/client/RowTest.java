@@ -6,9 +6,7 @@ import static org.junit.Assert.assertNull;
 import static org.junit.Assert.assertThrows;
 import static org.junit.Assert.assertTrue;
 
-import java.io.IOException;
 import java.nio.ByteBuffer;
-import java.nio.channels.WritableByteChannel;
 import java.util.ArrayList;
 import java.util.List;
 import java.util.concurrent.CompletableFuture;
@@ -19,58 +17,61 @@ import org.junit.Test;
 public final class RowTest {
     private static final byte[] FRAME = Wire.request(Wire.REMOVE, Wire.key("a"));
     private static final byte[] READ = Wire.request(Wire.GET, Wire.key("a"));
-    private final CallQueue calls = new CallQueue();
+    private final Stream calls = new Stream(0);
     private final Rows rows = new Rows();
 
-    /** Takes each write, and keeps how many calls were in it. */
-    private static final class Rows implements WritableByteChannel {
+    /** Keeps how many calls were in each row. */
+    private static final class Rows {
         final List<Integer> written = new ArrayList<>();
 
-        @Override
-        public int write(ByteBuffer bytes) {
-            int count = bytes.remaining();
-            assertEquals("whole frames", 0, count % FRAME.length);
-            bytes.position(bytes.limit());
-            written.add(count / FRAME.length);
-            return count;
+        void write(Stream calls) {
+            for (ByteBuffer row = calls.next(); row != null; row = calls.next()) {
+                assertEquals("whole frames", 0, row.remaining() % FRAME.length);
+                written.add(row.remaining() / FRAME.length);
+                row.position(row.limit());
+            }
         }
+    }
 
-        @Override
-        public boolean isOpen() {
-            return true;
+    /** The oldest calls, to which replies come. */
+    private List<Call> oldest(int count) {
+        List<Call> answered = new ArrayList<>();
+        for (int i = 0; i < count; i++) {
+            Call call = calls.answered(0);
+            if (call != null) {
+                answered.add(call);
+            }
         }
-
-        @Override
-        public void close() {
-        }
+        return answered;
     }
 
     /** Queues a change, and writes if this thread has to. */
-    private void send(boolean isAwaited) throws IOException {
+    private void send(boolean isAwaited) {
         send(FRAME, isAwaited);
     }
 
-    private void send(byte[] frame, boolean isAwaited) throws IOException {
-        if (calls.add(new Call(frame, Long.MAX_VALUE / 2, isAwaited))) {
-            assertTrue(calls.writeTo(rows));
+    private void send(byte[] frame, boolean isAwaited) {
+        Call call = isAwaited ? Call.awaited(frame, 1) : Call.ahead(frame, 1, null);
+        if (calls.add(call, 0)) {
+            rows.write(calls);
         }
     }
 
-    private void send(int count, boolean isAwaited) throws IOException {
+    private void send(int count, boolean isAwaited) {
         for (int i = 0; i < count; i++) {
             send(isAwaited);
         }
     }
 
     /** So many calls are answered; what is due behind them is written. */
-    private void answered(int count, boolean isReader) throws IOException {
-        List<Call> answered = calls.oldest(count);
+    private void answered(int count, boolean isReader) {
+        List<Call> answered = oldest(count);
         assertEquals(count, answered.size());
         if (isReader) {
             calls.expectMore(answered);
         }
         if (calls.hasGathered()) {
-            assertTrue(calls.writeTo(rows));
+            rows.write(calls);
         }
     }
 
@@ -101,7 +102,7 @@ public final class RowTest {
     @Test
     public void a_row_waits_for_the_threads_that_were_answered() throws Exception {
         send(4, true);
-        calls.expectMore(calls.oldest(1));
+        calls.expectMore(oldest(1));
         assertEquals(List.of(1), rows.written);
         send(true);
         assertEquals("the fourth of four threads is there", List.of(1, 4), rows.written);
@@ -112,7 +113,7 @@ public final class RowTest {
     public void a_row_that_waited_in_vain_is_followed_by_rows_that_do_not_wait() throws Exception {
         send(4, true);
         answered(1, true);
-        calls.expectMore(calls.oldest(3));
+        calls.expectMore(oldest(3));
         send(true);
         assertEquals("it doesn't wait for three threads", List.of(1, 3, 1), rows.written);
     }
@@ -145,7 +146,7 @@ public final class RowTest {
     public void a_reply_is_of_no_call_that_was_not_written() throws Exception {
         send(3, true);
         assertEquals(List.of(1), rows.written);
-        assertEquals(1, calls.oldest(2).size());
+        assertEquals(1, oldest(2).size());
     }
 
     @Test
@@ -170,9 +171,10 @@ public final class RowTest {
     @Test
     public void nothing_is_written_once_the_connection_has_ended() throws Exception {
         send(2, true);
-        assertEquals(2, calls.end(new IOException("it broke"), () -> { }));
+        Stream.Left left = calls.end();
+        assertEquals(List.of(1, 1), List.of(left.sent().size(), left.kept().size()));
         assertFalse(calls.hasGathered());
-        assertFalse(calls.add(new Call(FRAME, 1, true)));
+        assertFalse(calls.add(Call.awaited(FRAME, 1), 0));
         assertEquals(List.of(1), rows.written);
     }
 

@@ -101,6 +101,11 @@ final class Server implements AutoCloseable {
         return new BufferedReader(new InputStreamReader(process.getInputStream())).readLine();
     }
 
+    /** Sends a signal to the server, such as `STOP`. */
+    void signal(String name) throws IOException, InterruptedException {
+        new ProcessBuilder("kill", "-" + name, Long.toString(process.pid())).start().waitFor();
+    }
+
     Path socket() {
         return room.resolve("socket");
     }

@@ -9,7 +9,9 @@ public final class Tests {
     }
 
     public static void main(String[] words) {
-        Result result = JUnitCore.runClasses(PageTest.class, MapTest.class, RowTest.class, OutcomeTest.class);
+        Result result = JUnitCore.runClasses(PageTest.class, MapTest.class, RowTest.class, OutcomeTest.class,
+            StreamTest.class, DeadlineTest.class, StallTest.class,
+            ContractTest.class);
         result.getFailures().forEach(failure -> System.out.println("FAILED " + failure.getTestHeader() + ": "
             + failure.getTrace()));
         int failed = result.getFailureCount();
