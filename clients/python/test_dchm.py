@@ -7,15 +7,19 @@ tests/clients runs them. Nothing is timed: a call that is to succeed has all the
 The last line is `N passed, M failed`.
 """
 import contextlib
+import os
 import re
+import signal
 import sys
 import threading
 import time
 import unittest
 
 import dchm
-from dchm_testing import (ALONE, LONG, MOST_TURNS, PATIENT, SHORT, name_of, real, real_at_socket, request_of, rows,
-                          stand_in, sum_frame, told)
+from dchm import wire
+from dchm.core import Link
+from support import (ALONE, LONG, MOST_TURNS, PATIENT, SHORT, get_frame, name_of, put_frame, real, real_at_socket, request_of,
+                     rows, stand_in, sum_frame, told)
 from harness import suite
 from harness.places import PROTOCOL_PAGE, read
 from harness.suite import TURN_SECONDS, wait_until
@@ -33,14 +37,21 @@ def made(call):
     return call()
 
 
+def has_ended(server):
+    """Whether a client that nobody uses has taken note that its connection ended."""
+    lane = server._pool._free[-1]
+    lane.look(time.monotonic())
+    return lane.core.link is Link.NONE
+
+
 def call_of(server, body):
     """What the public methods make of a request."""
     method, key, arguments = request_of(body)
     if key is not None:
         return getattr(server, name_of(method))(key, *arguments)
-    if method == dchm.COUNT:
+    if method == wire.COUNT:
         return server.count()
-    return server.reduce(*arguments) if method == dchm.REDUCE else server.search(arguments[1], arguments[0])
+    return server.reduce(*arguments) if method == wire.REDUCE else server.search(arguments[1], arguments[0])
 
 
 class Page(unittest.TestCase):
@@ -48,10 +59,10 @@ class Page(unittest.TestCase):
 
     def test_each_row(self):
         played = {"key": 0, "whole map": 0, "wrong": 0}
-        whole = sum(reply[2] < 0x80 and request[2] >= dchm.COUNT for request, reply in rows())
+        whole = sum(reply[2] < 0x80 and request[2] >= wire.COUNT for request, reply in rows())
         with stand_in() as there, dchm.connect(there.address, **PATIENT) as server:
             for request, reply in rows():
-                kind = "wrong" if reply[2] >= 0x80 else "whole map" if request[2] >= dchm.COUNT else "key"
+                kind = "wrong" if reply[2] >= 0x80 else "whole map" if request[2] >= wire.COUNT else "key"
                 if kind == "whole map" and played[kind] == 0:
                     self.renew(server, {"a": 5, "b": 7})
                 if kind == "whole map" and played[kind] == whole - 2:
@@ -71,7 +82,7 @@ class Page(unittest.TestCase):
     def play(self, there, server, kind, request, reply):
         if request == b"\0\0":
             # No request of a client, so its reply alone is one of the page's.
-            self.assertIsInstance(dchm.result(b"\0\1\x20", reply[2:]), dchm.BadFrame)
+            self.assertIsInstance(wire.result(b"\0\1\x20", reply[2:]), dchm.BadFrame)
             return
         try:
             found = server._call(request) if kind == "wrong" else call_of(server, request[2:])
@@ -89,16 +100,16 @@ class Page(unittest.TestCase):
     def test_each_refusal_has_its_name(self):
         names = re.findall(r"^\| `([0-9A-F]{2})` (\w+) \|.*\| (\w+)[^|]*\|$", read(PROTOCOL_PAGE), re.MULTILINE)
         self.assertGreaterEqual(len(names), 9)
-        change = dchm.request(dchm.REMOVE, "a")
+        change = wire.request(wire.REMOVE, "a")
         for status, name, _ in names:
-            found = dchm.result(change, bytes([int(status, 16), 0]))
+            found = wire.result(change, bytes([int(status, 16), 0]))
             self.assertEqual(type(found).__name__, "OutcomeOpen" if name == "Failed" else name)
 
     def test_bytes_that_are_no_reply(self):
         for body in ("00", "0003", "000100", "0002000261", "0000000000", "02010000000000000002", "02020001FF",
                      "03010000000000000004", "0400", "870000", "8701", "01020002616263", "01020001FF"):
             with self.assertRaises(ConnectionError, msg=body):
-                dchm.result(dchm.request(dchm.GET, "a"), bytes.fromhex(body).ljust(2, b"\7"))
+                wire.result(get_frame("a"), bytes.fromhex(body).ljust(2, b"\7"))
 
 
 class Methods(unittest.TestCase):
@@ -166,7 +177,7 @@ class Methods(unittest.TestCase):
         self.assertEqual((s.get("t"), s.get("n")), ("x" * 4096, 2**63 - 1))
 
     def test_a_pipeline_answers_in_order_and_never_stalls(self):
-        with self.server.pipeline() as calls:
+        with self.assertRaises(dchm.PipelineFailed) as caught, self.server.pipeline() as calls:
             for _ in range(1000):
                 calls.merge("a", dchm.SUM, 1)
             calls.put("t", "x" * 4096)
@@ -176,6 +187,19 @@ class Methods(unittest.TestCase):
         self.assertEqual(calls.replies[:1000], list(range(1, 1001)))
         self.assertIsInstance(calls.replies[1001], dchm.WrongKind)
         self.assertEqual(calls.replies[1002:], ["x" * 4096] * 1000)
+        self.assertEqual((caught.exception.replies, caught.exception.failures), (calls.replies, [calls.replies[1001]]))
+        with self.server.pipeline() as calls:
+            calls.get("a")
+        self.assertEqual(calls.replies, [1000])
+        with self.server.pipeline() as calls:
+            pass
+        self.assertEqual(calls.replies, [])
+
+    def test_a_pipeline_whose_block_fails_sends_nothing(self):
+        with self.assertRaises(KeyError), self.server.pipeline() as calls:
+            calls.put("a", 1)
+            raise KeyError
+        self.assertIsNone(self.server.get("a"))
 
     def test_updates_of_many_clients_and_threads_count_exactly(self):
         def work(server):
@@ -192,17 +216,29 @@ class Methods(unittest.TestCase):
                 thread.join()
         self.assertEqual((self.server.get("a"), self.server.get("b")), (200, 200))
 
-    def test_an_interrupted_call_leaves_no_reply_for_the_next(self):
-        self.server.put("a", 5)
-        reply = self.server._reply
-        self.server._reply = lambda: (_ for _ in ()).throw(KeyboardInterrupt)
-        self.assertRaises(KeyboardInterrupt, self.server.get, "a")
-        self.server._reply = reply
-        self.assertIs(self.server.contains("a"), True)
-
-    def test_a_closed_client_connects_again(self):
+    def test_a_closed_client_stays_closed(self):
         self.server.close()
-        self.assertIsNone(self.server.get("a"))
+        for call in (lambda: self.server.get("a"), lambda: self.server.put("a", 1), lambda: self.server.longs().get("a")):
+            self.assertRaises(dchm.Closed, call)
+        with self.assertRaises(dchm.Closed), self.server.pipeline() as calls:
+            calls.get("a")
+        self.server.close()
+
+    def test_views_have_values_of_one_kind(self):
+        longs, texts = self.server.longs(), self.server.texts()
+        self.assertIsNone(longs.put("n", 5))
+        self.assertEqual((longs.merge("n", dchm.SUM, 2), longs.update("n", lambda old: old * 2)), (7, 14))
+        self.assertIsNone(texts.put_if_absent("t", "x"))
+        self.assertEqual((texts.get("t"), texts.search("x"), texts.count(), longs.contains("t")), ("x", "t", 2, True))
+        for call in (lambda: texts.get("n"), lambda: texts.put("n", "x"), lambda: longs.get("t")):
+            with self.assertRaises(dchm.WrongValue) as caught:
+                call()
+            self.assertIn(caught.exception.key, ("n", "t"))
+        self.assertEqual(self.server.get("n"), "x")
+        for call in (lambda: longs.put("a", "x"), lambda: texts.put("a", 1), lambda: longs.put("a", True),
+                     lambda: texts.put("a", None), lambda: longs.replace_if("a", 1, "x")):
+            self.assertRaises(TypeError, call)
+        self.assertIs(self.server.contains("a"), False)
 
 
 class Outcomes(unittest.TestCase):
@@ -240,7 +276,7 @@ class Outcomes(unittest.TestCase):
     def test_a_reply_to_no_request_ends_the_connection(self):
         with stand_in("merge a twice") as there, dchm.connect(there.address, **PATIENT) as server:
             self.assertEqual(server.merge("a", dchm.SUM, 1), 1)
-            self.assertTrue(wait_until(server._has_ended, MOST_TURNS), "the connection never ends")
+            self.assertTrue(wait_until(lambda: has_ended(server), MOST_TURNS), "the connection never ends")
             self.assertEqual(server.merge("a", dchm.SUM, 1), 2)
 
     def test_a_refusal_for_want_of_memory_changes_nothing_and_may_be_tried_again(self):
@@ -256,9 +292,9 @@ class Outcomes(unittest.TestCase):
                 for key, rule in rules.items():
                     server.put(key, 1)
                     self.assertEqual(server.get(key), 1, rule)
-                    self.assertEqual(there.received(dchm.request(dchm.GET, key)), 2, rule)
+                    self.assertEqual(there.received(get_frame(key)), 2, rule)
                 self.assertRaises(dchm.NotMade, server.get, "f")
-                self.assertEqual(there.received(dchm.request(dchm.GET, "f")), 1)
+                self.assertEqual(there.received(get_frame("f")), 1)
 
     def test_an_update_is_not_tried_again_once_a_change_is_open(self):
         with stand_in("replaceIf a drop") as there, dchm.connect(there.address, **PATIENT) as server:
@@ -266,20 +302,48 @@ class Outcomes(unittest.TestCase):
             self.assertRaises(dchm.OutcomeOpen, server.update, "a", lambda number: number + 1)
             self.assertEqual(server.get("a"), 2)
 
-    def test_a_pipeline_that_breaks_tells_each_call(self):
+    def test_a_pipeline_that_breaks_raises_with_what_was_made_and_sends_no_more(self):
         with stand_in("put p5 drop") as there, dchm.connect(there.address, **PATIENT) as server:
-            with server.pipeline() as calls:
-                for number in range(100):
+            with self.assertRaises(dchm.PipelineFailed) as caught, server.pipeline() as calls:
+                for number in range(200):
                     calls.put(f"p{number}", number)
                     calls.get(f"p{number}")
-            # The replies of the first calls may have come, and a row of 64 calls breaks; the others are made anew.
+            # The replies of the first calls may have come. All that was sent behind the break is lost, and no more is sent.
             kinds = [type(reply) for reply in calls.replies]
-            self.assertEqual(len(kinds), 200)
-            self.assertEqual(kinds[10], dchm.OutcomeOpen)
-            self.assertEqual(kinds[11:64], [dchm.NotMade, dchm.OutcomeOpen] * 26 + [dchm.NotMade])
-            self.assertEqual(calls.replies[64:], [None if at % 2 == 0 else at // 2 for at in range(64, 200)])
-            for number in range(100):
-                self.assertLessEqual(there.received(dchm.request(dchm.PUT, f"p{number}", number)), 1)
+            self.assertEqual(len(kinds), 400)
+            self.assertEqual((kinds[10], kinds[11]), (dchm.OutcomeOpen, dchm.NotMade))
+            sent = kinds.index(dchm.NotMade, kinds.index(dchm.OutcomeOpen))
+            self.assertEqual({*kinds[10:]}, {dchm.OutcomeOpen, dchm.NotMade})
+            self.assertEqual({*kinds[11::2]}, {dchm.NotMade})
+            self.assertEqual({*kinds[sent + 128::2]}, {dchm.NotMade})
+            self.assertEqual(caught.exception.replies, calls.replies)
+            for number in range(200):
+                got = there.received(put_frame(f"p{number}", number))
+                self.assertLessEqual(got, kinds[2 * number] is not dchm.NotMade, number)
+            self.assertEqual((server.get("p4"), server.get("p199")), (4, None))
+
+    def test_an_interrupted_call_leaves_no_reply_for_the_next(self):
+        def interrupt(*_):
+            raise KeyboardInterrupt
+
+        before = signal.signal(signal.SIGUSR1, interrupt)
+        self.addCleanup(signal.signal, signal.SIGUSR1, before)
+        with stand_in("get a held", "merge b held") as there, dchm.connect(there.address, **PATIENT) as server, \
+                dchm.connect(there.address, **PATIENT) as other:
+            server.put("a", 5)
+            for call, frame in ((lambda: server.get("a"), get_frame("a")),
+                                (lambda: server.merge("b", dchm.SUM, 1), sum_frame("b"))):
+                def signals():
+                    wait_until(lambda: there.received(frame), MOST_TURNS)
+                    os.kill(os.getpid(), signal.SIGUSR1)
+                thread = threading.Thread(target=signals)
+                thread.start()
+                self.assertRaises(KeyboardInterrupt, call)
+                thread.join()
+                self.assertIs(server.contains("a"), True)
+                self.assertEqual(there.received(frame), 1)
+            other.get("release")
+            self.assertEqual((server.get("a"), server.get("b")), (5, 1))
 
     def test_connecting_tells_why_it_failed(self):
         with stand_in("get '' failed") as there:
@@ -306,7 +370,7 @@ class Outcomes(unittest.TestCase):
     def test_the_end_of_an_idle_connection_by_the_server_is_no_error(self):
         with stand_in("put a quit") as there, dchm.connect(there.address, **PATIENT) as server:
             server.put("a", 1)
-            self.assertTrue(wait_until(server._has_ended, MOST_TURNS), "the connection never ends")
+            self.assertTrue(wait_until(lambda: has_ended(server), MOST_TURNS), "the connection never ends")
             self.assertEqual(server.merge("a", dchm.SUM, 1), 2)
 
     def test_a_unix_socket_is_as_good_as_a_port(self):

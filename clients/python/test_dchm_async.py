@@ -13,9 +13,10 @@ import sys
 import unittest
 
 import dchm
-import dchm_async
-from dchm_testing import (ALONE, LONG, MOST_TURNS, PATIENT, SHORT, name_of, real, real_at_socket, request_of, rows,
-                          stand_in, sum_frame, told)
+import dchm.aio
+from dchm import wire
+from support import (ALONE, LONG, MOST_TURNS, PATIENT, SHORT, get_frame, name_of, real, real_at_socket, request_of,
+                     rows, stand_in, sum_frame, told)
 from harness import suite
 from harness.suite import TURN_SECONDS, wait_until
 
@@ -34,7 +35,7 @@ class Async(unittest.IsolatedAsyncioTestCase):
 
     async def test_tasks_share_a_connection(self):
         with real() as port:
-            async with await dchm_async.connect(port, **PATIENT) as s:
+            async with await dchm.aio.connect(port, **PATIENT) as s:
                 replies = await asyncio.gather(*(s.merge("a", dchm.SUM, 1) for _ in range(1000)))
                 self.assertEqual(replies, list(range(1, 1001)))
                 with self.assertRaises(dchm.WrongKind):
@@ -46,9 +47,9 @@ class Async(unittest.IsolatedAsyncioTestCase):
 
     async def test_the_rows_of_the_page_are_sent(self):
         with stand_in() as there:
-            async with await dchm_async.connect(there.address, **PATIENT) as s:
+            async with await dchm.aio.connect(there.address, **PATIENT) as s:
                 for request, reply in rows():
-                    if reply[2] < 0x80 and request[2] < dchm.COUNT:
+                    if reply[2] < 0x80 and request[2] < wire.COUNT:
                         await self.play(there, s, request, reply)
                 self.assertEqual((await s.count(), await s.search("x"), await s.search(1)), (2, "n", None))
                 await s.remove("n")
@@ -69,7 +70,7 @@ class Async(unittest.IsolatedAsyncioTestCase):
 
     async def test_what_is_under_way_is_told_when_a_connection_breaks(self):
         with stand_in("merge a unmade") as there:
-            async with await dchm_async.connect(there.address, **PATIENT) as s:
+            async with await dchm.aio.connect(there.address, **PATIENT) as s:
                 got = await asyncio.gather(s.merge("a", dchm.SUM, 1), s.put("c", 1), s.get("c"), return_exceptions=True)
                 self.assertEqual([type(each) for each in got], [dchm.OutcomeOpen, dchm.OutcomeOpen, dchm.NotMade])
                 self.assertIsNone(await s.get("a"))
@@ -77,7 +78,7 @@ class Async(unittest.IsolatedAsyncioTestCase):
 
     async def test_a_change_that_stalls_is_open(self):
         with stand_in("merge a stall") as there:
-            async with await dchm_async.connect(there.address, timeout=SHORT, connect_timeout=LONG) as s:
+            async with await dchm.aio.connect(there.address, timeout=SHORT, connect_timeout=LONG) as s:
                 with self.assertRaises(dchm.OutcomeOpen):
                     await s.merge("a", dchm.SUM, 1)
                 self.assertTrue(await self.answers(s), "the client never answers again")
@@ -86,7 +87,7 @@ class Async(unittest.IsolatedAsyncioTestCase):
 
     async def test_a_failed_store_and_garbled_replies(self):
         with stand_in("merge a failed", "merge b garbled", "merge c full", "merge d cut 3") as there:
-            async with await dchm_async.connect(there.address, **PATIENT) as s:
+            async with await dchm.aio.connect(there.address, **PATIENT) as s:
                 for key, kind in (("a", dchm.OutcomeOpen), ("b", dchm.OutcomeOpen), ("c", dchm.NoMemory), ("d", dchm.OutcomeOpen)):
                     with self.assertRaises(kind, msg=key):
                         await s.merge(key, dchm.SUM, 1)
@@ -94,26 +95,9 @@ class Async(unittest.IsolatedAsyncioTestCase):
                     self.assertTrue(await self.answers(s), f"behind {key} the client never answers again")
                     self.assertEqual(there.received(sum_frame(key)), 1)
 
-    async def test_a_connection_that_ends_as_soon_as_it_is_open_leaves_no_call_waiting(self):
-        with stand_in() as there:
-            async with await dchm_async.connect(there.address, **PATIENT) as s:
-                await s.close()
-                opened = s._opened
-
-                async def ended():
-                    connection = await opened()
-                    connection.end(ConnectionError("it broke"))
-                    return connection
-                s._opened = ended
-                with self.assertRaises(dchm.NotMade):
-                    await asyncio.wait_for(s.put("a", 1), LONG)
-                s._opened = opened
-                self.assertIsNone(await s.put("a", 2))
-                self.assertEqual(there.received(dchm.request(dchm.PUT, "a", 1)), 0)
-
     async def test_updates_of_many_tasks_count_exactly(self):
         with real() as port:
-            async with await dchm_async.connect(port, **PATIENT) as s:
+            async with await dchm.aio.connect(port, **PATIENT) as s:
                 await asyncio.gather(*(s.update("a", lambda number: (number or 0) + 1) for _ in range(20)))
                 self.assertEqual(await s.get("a"), 20)
                 self.assertIsNone(await s.update("a", lambda number: None))
@@ -128,11 +112,11 @@ class Async(unittest.IsolatedAsyncioTestCase):
 
     async def test_a_cancelled_call_takes_no_reply_of_another(self):
         with stand_in("get a held") as there:
-            async with await dchm_async.connect(there.address, **PATIENT) as s, \
-                    await dchm_async.connect(there.address, **PATIENT) as other:
+            async with await dchm.aio.connect(there.address, **PATIENT) as s, \
+                    await dchm.aio.connect(there.address, **PATIENT) as other:
                 await s.put("b", 7)
                 task = asyncio.create_task(s.get("a"))
-                while not there.received(dchm.request(dchm.GET, "a")):
+                while not there.received(get_frame("a")):
                     await asyncio.sleep(TURN_SECONDS)
                 task.cancel()
                 with self.assertRaises(asyncio.CancelledError):
@@ -143,24 +127,24 @@ class Async(unittest.IsolatedAsyncioTestCase):
 
     async def test_an_idle_client_frees_its_place_and_comes_back(self):
         with real(*ALONE) as port:
-            async with await dchm_async.connect(port, timeout=LONG, connect_timeout=LONG, idle=SHORT) as first:
-                async with await made_soon(lambda: dchm_async.connect(port, **PATIENT)) as second:
+            async with await dchm.aio.connect(port, timeout=LONG, connect_timeout=LONG, idle=SHORT) as first:
+                async with await made_soon(lambda: dchm.aio.connect(port, **PATIENT)) as second:
                     self.assertIsNone(await second.put("a", 1))
                 self.assertEqual(await made_soon(lambda: first.merge("a", dchm.SUM, 1)), 2)
 
     async def test_connecting_tells_why_it_failed(self):
         with real(*ALONE) as port:
-            async with await dchm_async.connect(port, **PATIENT):
+            async with await dchm.aio.connect(port, **PATIENT):
                 with self.assertRaises(dchm.NotMade) as caught:
-                    await dchm_async.connect(port, **PATIENT)
+                    await dchm.aio.connect(port, **PATIENT)
                 self.assertIn("--connections", str(caught.exception))
         with self.assertRaises(dchm.NotMade):
-            await dchm_async.connect(port)
+            await dchm.aio.connect(port)
 
     async def test_a_unix_socket_is_as_good_as_a_port(self):
         with stand_in(unix=True) as there, real_at_socket() as path:
             for address in (there.address, path):
-                async with await dchm_async.connect(address, **PATIENT) as s:
+                async with await dchm.aio.connect(address, **PATIENT) as s:
                     replies = await asyncio.gather(*(s.merge("a", dchm.SUM, 1) for _ in range(100)))
                     self.assertEqual(replies, list(range(1, 101)))
 

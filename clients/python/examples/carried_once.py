@@ -1,48 +1,55 @@
-"""Requests that are carried out once, however often they come and the server is killed: carried_once.py PORT.
+"""Requests that are carried out once, though they come often, and servers and workers are killed: carried_once.py PORT WORKER
 
-Workers go through the same requests until the standard input ends. `carried N` is printed when request N is carried
-out, and `told N RESULT` when a worker knows its result.
+A worker claims a request under its name and the time. If it dies, another takes the claim over after PATIENCE_SECONDS. Then
+the work may be begun twice, so it is done under the request's name: here as a key of the map, elsewhere as the idempotency
+key of a payment. `carried N` and `took N` are printed of each work that is begun and each claim that is taken over, and
+`told N RESULT` once a result is known.
 """
-import sys
+import itertools
+import time
 import uuid
 
-from workers import connected, run, say, until_answered
+from workers import PAUSE_SECONDS, repeated, run, say
 
-WORKERS = 4
+# Longer than any work takes.
+PATIENCE_SECONDS = 1.0
+REQUESTS = itertools.count()
 
 
-def once(server, name, work):
-    """The result of the work for this request, of this call or another; None while another call is at it.
+def once(server, name, worker, work):
+    """The result of work() for this request, of this call or another; None while another worker is at it.
 
-    Nobody else writes this claim, so its put_if_absent may be repeated. The result takes the place of the claim, which
-    never comes back, so the replace_if may be repeated too.
+    Nobody else ever writes this claim, so each change from or to it may be repeated.
     """
-    key, claim = "request:" + name, "claim " + uuid.uuid4().hex
-    holder, _ = until_answered(lambda: server.put_if_absent(key, claim))
-    if holder not in (None, claim):
-        return holder[len("done "):] if holder.startswith("done ") else None
-    result = work()
-    is_done, was_open = until_answered(lambda: server.replace_if(key, claim, "done " + result))
-    if not is_done and not was_open:
-        raise RuntimeError(f"another has taken the claim of {key}")
-    return result
+    key, claim = f"request:{name}", f"claim {worker} {uuid.uuid4().hex} {time.time()}"
+    holder = repeated(lambda: server.put_if_absent(key, claim))
+    if holder not in (None, claim) and not holder.startswith("done "):
+        if time.time() < float(holder.split()[-1]) + PATIENCE_SECONDS:
+            return None
+        repeated(lambda: server.replace_if(key, holder, claim))
+        holder = repeated(lambda: server.get(key))
+        if holder == claim:
+            say("took", name)
+    if holder in (None, claim):
+        result = work()
+        repeated(lambda: server.replace_if(key, claim, "done " + result))
+        holder = repeated(lambda: server.get(key))  # the result of another, if that one took the claim over
+    return holder[len("done "):] if holder.startswith("done ") else None
 
 
-def main():
-    def work(number, goes_on):
-        with connected() as server:
-            request = 0
-            while goes_on():
-                def carry():
-                    say("carried", request)
-                    return f"charged-{request}"
-                result = once(server, str(request), carry)
-                if result is not None:
-                    say("told", request, result)
-                request += 1
+def charge(server, number, worker):
+    """Work that has one effect, however often it is done: the first charge under the request's name stands."""
+    say("carried", number)
+    charged = f"by-{worker}-{uuid.uuid4().hex}"
+    return repeated(lambda: server.put_if_absent(f"charge:{number}", charged)) or charged
 
-    return run(WORKERS, work)
+
+def work(server, worker):
+    number = next(REQUESTS)
+    while (result := once(server.texts(), str(number), worker, lambda: charge(server.texts(), number, worker))) is None:
+        time.sleep(PAUSE_SECONDS)
+    say("told", number, result)
 
 
 if __name__ == "__main__":
-    sys.exit(main())
+    run(work)

@@ -1,66 +1,72 @@
-"""At most so many requests of a user in each window, also if the server is killed: rate_limit.py PORT.
+"""At most so many requests of a user in each window, though servers and workers are killed: rate_limit.py PORT WORKER
 
-Threads ask until the standard input ends, each so often in a window. `allowed`, `refused`, `open` or `away` is printed of
-each question, with its window. A program would take the time for the window: int(time.time()) // SECONDS.
+`allowed`, `refused`, `open` or `away` is printed of each question, with its window.
 """
-import sys
-import threading
+import functools
+import time
 
 import dchm
-from workers import connected, run, say, until_answered
+from index import Index
+from workers import repeated, run, say
 
-WORKERS = 4
 MOST = 5
-QUESTIONS_OF_A_WORKER = 5
+WINDOW_SECONDS = 0.25
+# A window is swept once no request of it can be under way any more.
+LATER = 8
+
+
+def windows(server):
+    return Index(server, "windows", shards=8, most=200)
+
+
+def users_of(server, window):
+    return Index(server, f"users:{window}", shards=4, most=100)
 
 
 class Limit:
     """One merge by SUM counts and tells. It isn't repeated: if its outcome is open, the request isn't allowed.
 
-    There is no expiry. So each process removes the counts that it added to by their names, two windows later, when no
-    request of that window is under way any more. A removal may be repeated, since a name never comes back.
+    The window and its user are noted before the first count, so that any sweeper finds what a worker that died has left.
     """
 
-    def __init__(self, server, user):
-        self.server, self.user, self.used = server, user, []
+    def __init__(self, server):
+        self.server, self.noted = server, set()
 
-    def asks(self, window):
+    def asks(self, user, window):
         """`allowed`, `refused`, `open`, or `away` if there is no server."""
-        for old in [old for old in self.used if old < window - 1]:
-            until_answered(lambda: self.server.remove(self.name(old)))
-            self.used.remove(old)
-        if window not in self.used:
-            self.used.append(window)
+        if (user, window) not in self.noted:
+            windows(self.server.texts()).add(str(window))
+            users_of(self.server.texts(), window).add(user)
+            self.noted.add((user, window))
         try:
-            return "allowed" if self.server.merge(self.name(window), dchm.SUM, 1) <= MOST else "refused"
+            return "allowed" if self.server.longs().merge(f"rate:{user}:{window}", dchm.SUM, 1) <= MOST else "refused"
         except dchm.NotMade:
             return "away"
         except dchm.OutcomeOpen:
             return "open"
 
-    def name(self, window):
-        return f"rate:{self.user}:{window}"
+
+def sweep(server, now_window):
+    """Removes the counts of old windows. A removal may be repeated, since a window never comes back."""
+    index = windows(server.texts())
+    for window in [window for window in index.names() if int(window) + LATER < now_window]:
+        users = users_of(server.texts(), window)
+        for user in users.names():
+            repeated(lambda: server.remove(f"rate:{user}:{window}"))
+        users.remove()
+        index.drop(window)
 
 
-def main():
-    has_ended = threading.Event()
-    next_window = threading.Barrier(WORKERS)
+limit_of = functools.cache(Limit)
 
-    def work(number, goes_on):
-        with connected() as server:
-            limit = Limit(server, "ann")
-            window = 0
-            while not has_ended.is_set():
-                for _ in range(QUESTIONS_OF_A_WORKER):
-                    say(limit.asks(window), window)
-                window += 1
-                if not goes_on():
-                    has_ended.set()
-                next_window.wait()
-                next_window.wait()
 
-    return run(WORKERS, work)
+def work(server, worker):
+    window = int(time.time() / WINDOW_SECONDS)
+    say(limit_of(server).asks("ann", window), window)
+    if worker.endswith("0"):
+        sweep(server, window)
+    time.sleep(WINDOW_SECONDS / 10)
 
 
 if __name__ == "__main__":
-    sys.exit(main())
+    run(work)

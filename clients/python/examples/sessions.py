@@ -1,75 +1,109 @@
-"""Sessions of users, also if the server is killed: sessions.py PORT.
+"""Sessions of users, though servers and workers are killed: sessions.py PORT WORKER
 
-Each user logs in, is seen a few times, and logs out everywhere, again and again until the standard input ends. `seen
-SESSION` is printed of each time that a session was counted up, and `gone SESSION` once it is removed.
-
-A session is the text `VERSION COUNT`. An index of each user, `VERSION NAME..`, has the names of the sessions, since there is
-no iteration. Versions only rise: no text comes back, and a conditional change may be repeated if its outcome is open.
+A session is the text `VERSION EXPIRES`. An index of each user has the names of its sessions; if there are too many, the
+oldest is dropped. An index of each span of time has those that expire in it, so that a sweeper finds them. Each name stands
+in both indexes before its session is there. `in`, `out` and `dropped` are printed with the names of sessions.
 """
-import sys
+import random
+import time
 import uuid
 
-from workers import connected, run, say, until_answered
+from index import Index
+from workers import repeated, run, say, settled
 
+LIFE_SECONDS, SPAN_SECONDS = 3600, 60
 USERS = 4
-SIGHTS = 10
 
 
-def changed(server, key, change):
-    """Maps a key from the text `VERSION WORDS` to the next version with change(words); absent is version 0."""
-    while True:
-        old, _ = until_answered(lambda: server.get(key))
-        version, *words = (old or "0").split()
-        new = " ".join([str(int(version) + 1), *change(words)])
-        if old is None:
-            holder, was_open = until_answered(lambda: server.put_if_absent(key, new))
-            is_done = holder is None or was_open and holder == new
-        else:
-            is_done, was_open = until_answered(lambda: server.replace_if(key, old, new))
-            # Only one program changes this key at a time: if it wasn't done after an open outcome, the one before was.
-            is_done = is_done or was_open
-        if is_done:
-            return
+def index_of_user(server, user):
+    return Index(server, f"sessions:{user}", shards=4, most=16)
+
+
+def index_of_span(server, span):
+    return Index(server, f"expiring:{span}", shards=64, most=60)
+
+
+def index_of_spans(server):
+    return Index(server, "expiring", shards=8, most=200)
 
 
 def log_in(server, user):
-    """The name of a new session. It stands in the index before it is there, so that a log out finds it."""
-    session = f"session:{user}:{uuid.uuid4().hex}"
-    changed(server, f"sessions:{user}", lambda names: [*names, session])
-    changed(server, session, lambda _: ["0"])
-    return session
+    """The name of a new session."""
+    session, expires = f"{user}:{uuid.uuid4().hex}", int(time.time()) + LIFE_SECONDS
+    expect(server, session, expires)
+    index = index_of_user(server, user)
+    while oldest := index.add(session):
+        end(server, user, oldest)
+        say("dropped", oldest)
+    settled(server, "session:" + session, lambda words: None if words else [str(expires)])
+    if session in index.names():
+        return session
+    end(server, user, session)  # the user logged out meanwhile
+    return log_in(server, user)
+
+
+def expect(server, session, expires):
+    """Notes the session in the first span behind its end that has room; it is swept a little later then."""
+    span = expires // SPAN_SECONDS + 1
+    while True:
+        index_of_spans(server).add(str(span))
+        if index_of_span(server, span).add(session) is None:
+            return
+        span += 1
+
+
+def is_alive(server, session, now):
+    words = (repeated(lambda: server.get("session:" + session)) or "0").split(" ")[1:]
+    return bool(words) and int(words[0]) > now
 
 
 def see(server, session):
-    """Counts the session up."""
-    changed(server, session, lambda words: [str(int(words[0]) + 1)])
+    """Prolongs a session that is alive: it is noted in its later span before."""
+    expires = int(time.time()) + LIFE_SECONDS
+    expect(server, session, expires)
+    settled(server, "session:" + session, lambda words: [str(expires)] if words and int(words[0]) < expires else None)
+
+
+def end(server, user, session):
+    """Ends a session and drops its name, also if it is made just now; one that is cut short leaves the name."""
+    repeated(lambda: server.remove("session:" + session))
+    index_of_user(server, user).drop(session)
+    repeated(lambda: server.remove("session:" + session))
 
 
 def log_out(server, user):
-    """Removes all sessions of the user; returns their names."""
-    index, _ = until_answered(lambda: server.get(f"sessions:{user}"))
-    names = (index or "0").split()[1:]
+    """Ends all sessions of the user; returns their names."""
+    names = index_of_user(server, user).names()
     for name in names:
-        until_answered(lambda: server.remove(name))
-    changed(server, f"sessions:{user}", lambda now: [name for name in now if name not in names])
+        end(server, user, name)
     return names
 
 
-def main():
-    def work(number, goes_on):
-        with connected() as server:
-            while goes_on():
-                session = log_in(server, number)
-                for _ in range(SIGHTS):
-                    see(server, session)
-                    say("seen", session)
-                if not goes_on():
-                    return
-                for name in log_out(server, number):
-                    say("gone", name)
+def sweep(server, now):
+    """Ends the sessions whose time is over. Several may sweep, and one that dies is followed by another."""
+    spans = index_of_spans(server)
+    for span in [span for span in spans.names() if (int(span) + 1) * SPAN_SECONDS <= now]:
+        index = index_of_span(server, span)
+        for session in index.names():
+            if not is_alive(server, session, now):
+                end(server, session.partition(":")[0], session)
+        index.remove()
+        spans.drop(span)
 
-    return run(USERS, work)
+
+def work(server, worker):
+    texts, user = server.texts(), f"user{random.randrange(USERS)}"
+    kind = random.random()
+    if kind < 0.9:
+        session = log_in(texts, user)
+        see(texts, session)
+        say("in", session)
+    elif kind < 0.95:
+        for session in log_out(texts, user):
+            say("out", session)
+    else:
+        sweep(texts, time.time())
 
 
 if __name__ == "__main__":
-    sys.exit(main())
+    run(work)

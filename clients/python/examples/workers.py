@@ -1,57 +1,56 @@
-"""What the examples share: threads that work until the standard input ends, and calls that may be repeated."""
+"""What the recipes share: a worker that goes on until its standard input ends, and calls that may be repeated."""
+import contextlib
+import select
 import sys
-import threading
 import time
 
 import dchm
 
 PAUSE_SECONDS = 0.02
-_PRINTING = threading.Lock()
 
 
 def say(*words):
     """Prints a line, whole."""
-    with _PRINTING:
-        print(*words, flush=True)
+    sys.stdout.write(" ".join(map(str, words)) + "\n")
+    sys.stdout.flush()
 
 
-def until_answered(call):
-    """Repeats a call, which must be one that may be made twice, until it is answered.
-
-    Returns the answer, and whether an outcome was open on the way.
-    """
-    was_open = False
+def repeated(call):
+    """The answer to a call that may be made twice, however often that takes."""
     while True:
-        try:
-            return call(), was_open
-        except dchm.OutcomeOpen:
-            was_open = True
-        except dchm.NotMade:
-            pass
+        with contextlib.suppress(dchm.NotMade, dchm.OutcomeOpen):
+            return call()
         time.sleep(PAUSE_SECONDS)
 
 
-def connected():
-    """A client of the server at the port that the program was told, once there is one."""
-    return until_answered(lambda: dchm.connect(int(sys.argv[1])))[0]
+def settled(server, key, change):
+    """Changes a text `VERSION WORD..` until change(words) is None: there is nothing more to do. Returns the words.
 
-
-def run(count, work):
-    """Runs work(number, goes_on) in so many threads until the standard input ends; returns the exit status."""
-    ended, failures = threading.Event(), []
-
-    def guarded(number):
+    What it does may be repeated after an open outcome: versions only rise, so no text comes back, and what was done is seen.
+    """
+    while True:
+        text = repeated(lambda: server.get(key))
+        version, *words = (text or "0").split(" ")
+        new = change(words)
+        if new is None:
+            return words
+        text_after = " ".join([str(int(version) + 1), *new])
         try:
-            work(number, lambda: not ended.is_set())
-        except Exception as error:  # told by the status
-            failures.append(error)
-            say("failed", repr(error))
+            if text is None:
+                server.put_if_absent(key, text_after)
+            else:
+                server.replace_if(key, text, text_after)
+        except (dchm.NotMade, dchm.OutcomeOpen):
+            time.sleep(PAUSE_SECONDS)
 
-    threads = [threading.Thread(target=guarded, args=(number,)) for number in range(count)]
-    for thread in threads:
-        thread.start()
-    sys.stdin.read()
-    ended.set()
-    for thread in threads:
-        thread.join()
-    return 1 if failures else 0
+
+def goes_on():
+    """Whether the standard input hasn't ended."""
+    return not select.select([sys.stdin], [], [], 0)[0]
+
+
+def run(work):
+    """A worker: work(server, worker) again and again, with the port and the worker's name that the program was told."""
+    with repeated(lambda: dchm.connect(int(sys.argv[1]))) as server:
+        while goes_on():
+            work(server, sys.argv[2])
