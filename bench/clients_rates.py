@@ -9,7 +9,7 @@ import sys
 import time
 
 import dchm
-import dchm_async
+import dchm.aio
 
 KEYS = [f"key{number:07d}" for number in range(1000)]
 AHEAD = 256
@@ -38,7 +38,7 @@ def in_pipelines(port, kind, until):
 
 async def by_tasks(port, kind, until):
     done = 0
-    async with await dchm_async.connect(port) as server:
+    async with await dchm.aio.connect(port) as server:
         async def task():
             nonlocal done
             while time.monotonic() < until:
