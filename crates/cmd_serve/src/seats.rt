@@ -25,12 +25,21 @@ const MOST_LOOKS: u32 = 50;
 
 const LOOK_PAUSE: u64 = 100;
 
+/// A worker that was seen to be held up, and the position at which it stood.
+#[derive(Clone, Copy)]
+struct HeldUp {
+    place: usize,
+    least: u64,
+}
+
 /// Where connections are handed to the workers.
 #[derive(Drop)]
 pub struct Doors {
     senders: Vec<Sender<Stream, Global>>,
     // the worker whose turn it is
     turn: usize,
+    // the last worker that was seen to be held up
+    held_up: Option<HeldUp>,
 }
 
 /// The place of the first worker that has fewer clients than this share. If none has, it is that of one
@@ -53,15 +62,11 @@ fn least_busy(bells: &[Bell], share: usize, is_free: bool) -> usize {
     found
 }
 
-/// Whether the worker at this place waits for nothing, or goes on with what it waits for. A device that
-/// doesn't answer holds it up, and a new client would wait there too.
-fn goes_on<R: Clock>(rt: &R, bells: &[Bell], place: usize) -> bool {
-    let Some(bell) = bells.get(place) else {
-        return false;
-    };
-    let least = bell.least();
+/// Whether a worker that stands at this position goes on soon. A device that doesn't answer holds it up, and
+/// a new client would wait there too.
+fn goes_on_from<R: Clock>(rt: &R, bell: &Bell, least: u64) -> bool {
     for _ in 0..MOST_LOOKS {
-        if bell.least() != least || least == 0 {
+        if bell.least() != least {
             return true;
         }
         thread::sleep(rt, Duration::from_micros(LOOK_PAUSE));
@@ -69,16 +74,44 @@ fn goes_on<R: Clock>(rt: &R, bells: &[Bell], place: usize) -> bool {
     false
 }
 
-/// The place of the worker that gets the next client.
-fn next_place<R: Clock>(rt: &R, bells: &[Bell], share: usize) -> usize {
-    let place = least_busy(bells, share, false);
-    if goes_on(rt, bells, place) {
-        return place;
-    }
-    least_busy(bells, share, true)
-}
-
 impl Doors {
+    /// Whether this worker was seen to be held up where it stands.
+    fn is_held_up(&self, place: usize, least: u64) -> bool {
+        match self.held_up {
+            Some(held_up) => held_up.place == place && held_up.least == least,
+            None => false,
+        }
+    }
+
+    /// Whether the worker at this place waits for nothing, or goes on with what it waits for. It is watched
+    /// once for each position at which it is held up.
+    fn goes_on<R: Clock>(&mut self, rt: &R, bells: &[Bell], place: usize) -> bool {
+        let Some(bell) = bells.get(place) else {
+            return false;
+        };
+        let least = bell.least();
+        if least == 0 {
+            return true;
+        }
+        if self.is_held_up(place, least) {
+            return false;
+        }
+        if goes_on_from(rt, bell, least) {
+            return true;
+        }
+        self.held_up = Some(HeldUp { place, least });
+        false
+    }
+
+    /// The place of the worker that gets the next client.
+    fn next_place<R: Clock>(&mut self, rt: &R, bells: &[Bell], share: usize) -> usize {
+        let place = least_busy(bells, share, false);
+        if self.goes_on(rt, bells, place) {
+            return place;
+        }
+        least_busy(bells, share, true)
+    }
+
     /// The place of the worker whose turn it is. The turn of the next one comes next.
     fn take_turn(&mut self) -> usize {
         if self.turn >= self.senders.len() {
@@ -147,7 +180,7 @@ impl Doors {
         share: usize,
         stream: Stream,
     ) -> bool {
-        self.turn = next_place(rt, bells, share);
+        self.turn = self.next_place(rt, bells, share);
         let mut offered = match self.offer_all(rt, bells, stream) {
             Ok(()) => return true,
             Err(back) => back,
@@ -254,6 +287,7 @@ pub fn furnish<R: Log + Net>(
         doors: Doors {
             senders: Vec::new(alloc),
             turn: 0,
+            held_up: None,
         },
     };
     let mut bells = Vec::new(alloc);

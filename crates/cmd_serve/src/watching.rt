@@ -1,14 +1,18 @@
-//! The calls of the device are watched: one that takes long is told of.
+//! The calls of the device are watched, and the names of its files: a call that takes long is told of, and
+//! that a file was removed.
 
 use disk_model::{DeviceCall, FirstError};
 use durable_map::Ends;
-use log::{Log, info, warn};
+use log::{Log, error, info, warn};
 use std::sync::Wait;
 use std::thread;
 use std::time::{Clock, Duration, Instant};
 
 /// How long the thread that watches sleeps at a time, in milliseconds.
 const PAUSE: u64 = 100;
+
+/// After how many pauses it is looked whether the files have names still: each second.
+const PAUSES: u32 = 10;
 
 /// After how many seconds a device call is told of.
 const LONG: u64 = 5;
@@ -89,6 +93,31 @@ pub(crate) fn watch_device<R: Clock + Log + Wait, E: Ends>(
         if let Some(watched) = &mut watched {
             watched.tell(rt);
         }
+        thread::sleep(rt, Duration::from_millis(PAUSE));
+    }
+}
+
+/// Looks each second whether the files have names still, until one has none or `ends` says so. From then on
+/// each device call fails, so that no change is answered which would be lost with the process. It asks the
+/// system about the files, and so may wait for it.
+pub(crate) fn watch_names<R: Clock + Log + Wait, E: Ends>(
+    rt: &R,
+    first_error: &FirstError,
+    ends: &E,
+) {
+    let mut pauses = 0;
+    for _turn in rt.forever() {
+        if ends.has_ended() {
+            return;
+        }
+        if pauses == PAUSES {
+            pauses = 0;
+            if first_error.note_removal() {
+                error!(rt; "the files have no names any more: no change is kept from now on");
+                return;
+            }
+        }
+        pauses += 1;
         thread::sleep(rt, Duration::from_millis(PAUSE));
     }
 }

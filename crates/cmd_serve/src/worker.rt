@@ -176,6 +176,13 @@ impl<D: Disk + Drop, O: Observer, R: Clock + Wait> Calls for Worker<'_, D, O, R>
         }
     }
 
+    fn reply_bytes(&self, begun: &Begun) -> usize {
+        match begun {
+            Begun::Call(_, held) => held.text_bytes(),
+            Begun::View(..) => 0,
+        }
+    }
+
     fn finish(&mut self, begun: Begun) -> Result<Reply, Refusal> {
         match begun {
             Begun::Call(mark, held) => {

@@ -116,9 +116,9 @@ module _ {S H : Type 0} (began : S → Request → Result H Refusal → S → Ty
       let size = ap (λ (x : List (Place H)). length x) p.places in
       subst (λ (x : List (Place H)). IsRow [] (begin_moves begun) x) (sym p.places) (begins_row [] begun (omega arith) p.single)
 
-  -- the row is full
-  pub begins_full : (s0 s1 : S) (old new : Feed) (row : List (Place H)) (begun : List (Message × Place H)) → 64 ≤ length row → Beginning s0 s1 old new row begun → BeginsRow began finished gave_up s0 s1 old new row
-  begins_full s0 s1 old new row begun full p =
+  -- no more is begun beside these
+  pub begins_some : (s0 s1 : S) (old new : Feed) (row : List (Place H)) (begun : List (Message × Place H)) → 1 ≤ length row → Beginning s0 s1 old new row begun → BeginsRow began finished gave_up s0 s1 old new row
+  begins_some s0 s1 old new row begun some p =
       (begun, p.places, in_row_of s0 s1 old new row begun p, p.leads, stops_good begun p.good, gives p.opened)
     where
       gives : ((begun ≡ []) × (new ≡ old)) ⊎ ((old.ended ≡ false) × (new.ended ≡ false) × (work new < work old)) → Gives old new (messages_in begun)
@@ -192,3 +192,16 @@ module _ {S H : Type 0} (began : S → Request → Result H Refusal → S → Ty
             let takes = open_takes mid new q.0 q.2 bulk.0 in
             let fewer = still_fewer old mid new q.0 p.opened q.2 in
             inr (fewer.0, fewer.1, inl (takes.0, subst (λ (x : List Message). Begins old.left x new.left) (sym messages) (begins_then old.left mid.left new.left (messages_in begun) (q.0 ∷ []) p.taken takes.1)))
+
+    -- the next message took its place, and no more is begun
+    pub begins_enough : length row < 64 → (is_last : Bool) → is_last ≡ false → BeginsNext began finished gave_up s1 s2 mid new row after is_last → BeginsRow began finished gave_up s0 s2 old new after
+    begins_enough room is_last e next =
+        let more = begins_more room is_last e next in
+        begins_some s0 s2 old new after more.0 (took next) more.1
+      where
+        took : BeginsNext began finished gave_up s1 s2 mid new row after is_last → 1 ≤ length after
+        took (inl q) = let no : true ≡ false = sym q.0 ∙ e in cc
+        took (inr q) =
+            let count = length-append row (q.1 ∷ []) in
+            let size = ap (λ (x : List (Place H)). length x) q.4 in
+            omega arith

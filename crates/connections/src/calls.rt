@@ -44,6 +44,12 @@ pub trait Calls {
         None
     }
 
+    /// How many bytes its reply has, nearly, if that is known. It is a hint, and no clause speaks of it.
+    /// Left out it says none. No more calls are begun beside those whose replies have much.
+    fn reply_bytes(&self, _held: &Self::Held) -> usize {
+        0
+    }
+
     /// Answers a call that was begun.
     fn finish(&mut self, held: Self::Held) -> Result<Reply, Refusal>
         requires owned { owns self.old held }

@@ -136,9 +136,9 @@ impl<H> Connection<H> {
         matches!(self.stage, Stage::Open) && self.row.is_empty() && self.row.capacity() >= MOST_HELD
     }
 
-    /// Begins the whole messages in hand, at most 64, and none behind a bad frame. A request of the
-    /// whole map is begun alone. Nothing is begun while a call is held, without room, or if the
-    /// connection has ended or was given up.
+    /// Begins the whole messages in hand, at most 64, and none behind a bad frame, nor once the replies
+    /// have many bytes, as the calls tell. A request of the whole map is begun alone. Nothing is begun
+    /// while a call is held, without room, or if the connection has ended or was given up.
     pub fn begin<C: Calls<Held = H>>(&mut self, calls: &mut C)
         // The messages take their places in order, whatever came of the connection before.
         ensures grew { Grew C.began C.finished C.gave_up calls.old calls.new

@@ -15,6 +15,10 @@ use wire_frames::{Feeder, Request, whole_map_begins_bulk};
 /// The most places of a row.
 pub(crate) const MOST_HELD: usize = 64;
 
+/// The bytes of the replies in a row behind which no more calls are begun. So what a client makes a server
+/// hold that takes no replies is bounded. It is half of what is gathered at a time.
+const MANY_BYTES: usize = 32768;
+
 /// What a message has in the row.
 #[derive(Drop)]
 pub(crate) enum Place<H> {
@@ -106,8 +110,16 @@ fn begin_next<C: Calls>(
     }
 }
 
-/// Begins the whole messages in hand, at most 64, and none behind a bad frame. A request of the
-/// whole map is begun alone.
+/// How many bytes the reply of the last place has, nearly.
+fn last_bytes<C: Calls>(calls: &C, row: &VecDeque<Place<C::Held>>) -> usize {
+    match row.back() {
+        Some(Place::Held(held)) => calls.reply_bytes(held),
+        _ => 0,
+    }
+}
+
+/// Begins the whole messages in hand, at most 64, and none behind a bad frame, nor once the replies have
+/// many bytes. A request of the whole map is begun alone.
 pub(crate) fn begin_row<C: Calls>(
     feeder: &mut Feeder,
     calls: &mut C,
@@ -124,8 +136,13 @@ pub(crate) fn begin_row<C: Calls>(
     ensures others { StillOwns C.owns calls.old calls.new }
     ensures capacity { deque_capacity row.new ≡ deque_capacity row.old }
 {
+    let mut room = MANY_BYTES;
     'messages: while row.len() < MOST_HELD {
         if begin_next(feeder, calls, row) {
+            return;
+        }
+        room = room.saturating_sub(last_bytes(calls, row));
+        if room == 0 {
             return;
         }
     }

@@ -24,6 +24,11 @@ impl Held {
         self.held.position()
     }
 
+    /// How many bytes the text of its reply has, if it has one: so much memory is held with it.
+    pub fn text_bytes(&self) -> usize {
+        self.held.text_bytes()
+    }
+
     /// Gives the reply up. The change, if it was one, was made all the same.
     pub fn give_up(self) {}
 }

@@ -2,7 +2,7 @@
 ghost use Rattle.std.specs.Prelude.{◌≡◌};
 
 use crate::numbers::Position;
-use map_types::Reply;
+use map_types::{Reply, Value};
 
 /// A reply whose position may not be durable yet. It can't be looked at: a release gives it out, or
 /// it is given up.
@@ -17,6 +17,16 @@ impl Held {
         ensures { result ≡ self.now.position }
     {
         self.position
+    }
+
+    /// How many bytes the text of its reply has, if it has one: so much memory is held with it.
+    pub fn text_bytes(&self) -> usize {
+        match &self.reply {
+            Reply::Was(Some(Value::Text(text))) | Reply::Now(Some(Value::Text(text))) => {
+                text.as_str().len()
+            }
+            _ => 0,
+        }
     }
 
     /// Gives the reply up. The change, if it was one, was made all the same.

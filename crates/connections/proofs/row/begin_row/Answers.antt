@@ -1,5 +1,5 @@
 use Rattle.std.proofs.Common.{◌<◌, ◌≤◌, [], length, refl, ◌∙◌, arith}
-use Rattle.connections.proofs.Beginning.{beginning_none, begins_more, begins_last, begins_full}
+use Rattle.connections.proofs.Beginning.{beginning_none, begins_more, begins_last, begins_some, begins_enough}
 use Rattle.connections.proofs.Owning.{owns_none}
 use Rattle.connections.proofs.row.begin_row.Goals as goal
 
@@ -24,8 +24,14 @@ returns-then-begin_next-clause-begun g c =
 pub returns-clause-begun : goal.returns-clause-begun
 returns-clause-begun g c =
     let before = c.messages.invariant.0 in
-    let full : 64 ≤ length c.messages.row.items = omega (arith, c.messages.row.ok.0) in
-    begins_full g.C.Calls.began g.C.Calls.finished g.C.Calls.gave_up _ _ _ _ _ _ full before.1
+    let some : 1 ≤ length c.messages.row.items = omega (arith, c.messages.row.ok.0) in
+    begins_some g.C.Calls.began g.C.Calls.finished g.C.Calls.gave_up _ _ _ _ _ _ some before.1
+
+pub returns-then-room-eq0-clause-begun : goal.returns-then-room-eq0-clause-begun
+returns-then-room-eq0-clause-begun g c =
+    let before = c.messages.invariant.0 in
+    let room : length c.messages.row.items < 64 = omega (arith, c.messages.row.ok.0) in
+    begins_enough g.C.Calls.began g.C.Calls.finished g.C.Calls.gave_up _ _ _ _ _ _ _ _ _ before.1 room _ c.if-begin_next.false c.begin_next.ensures.begun
 
 pub returns-then-begin_next-clause-others : goal.returns-then-begin_next-clause-others
 returns-then-begin_next-clause-others g c = λ held p. c.begin_next.ensures.others held (c.messages.invariant.4 held p)
