@@ -1,12 +1,17 @@
-"""Servers whose files are slow."""
+"""Servers whose files are slow, or are removed."""
 import contextlib
+import functools
+import os
+import shutil
 import threading
 
+from harness.files import FILES
 from harness.servers import Connection, Dchm, dchm, kill
 from serving.called import TO_THE_END, Called
-from serving.runs import CONNECTIONS, PROGRAM
+from serving.runs import CONNECTIONS, PROGRAM, Process
 
 KEY, OTHER = b"key", b"other"
+FAILED = b"\x00\x02\x89\x00"
 PUT = Dchm.request("put", OTHER, 1)
 
 
@@ -40,3 +45,33 @@ class Slow(Called):
             self.assertEqual([b"\x00\x02\x00\x00"], replies)
             self.wait_until(lambda: "log-a: it answered after" in self.records(), "its end is told of")
         self.assertEqual(1, self.records().count("no answer"))
+
+
+class Removed(Process):
+    """A directory, or one of its files, that is removed while it is served: what is written to it is lost with the process."""
+
+    def fails_without(self, remove):
+        """The server finds it by itself, and answers no change from then on."""
+        with self.served() as (_, port):
+            self.assertEqual(b"\x00\x02\x00\x00", exchange(port, PUT))
+            remove()
+            self.wait_until(lambda: "the files have no names any more" in self.records(), "it is told of")
+            self.assertEqual(FAILED, exchange(port, Dchm.request("put", KEY, 2)))
+            self.wait_until(lambda: "the store has failed, " in self.records(), "the store fails")
+            self.assertEqual(FAILED, exchange(port, Dchm.request("get", OTHER)))
+        self.assertIn(": it was removed: each call is refused from now on", self.records())
+
+    def test_a_directory(self):
+        self.fails_without(lambda: shutil.rmtree(self.directory))
+
+    def test_a_file(self):
+        for name in FILES:
+            with self.subTest(name):
+                self.setUp()
+                self.fails_without(functools.partial(os.remove, os.path.join(self.directory, name)))
+
+    def test_a_file_that_another_replaced(self):
+        def replace():
+            shutil.copyfile(os.path.join(self.directory, "log-a"), self.directory + ".copy")
+            os.replace(self.directory + ".copy", os.path.join(self.directory, "log-a"))
+        self.fails_without(replace)
