@@ -4,3 +4,4 @@ pub mod Legality
 pub mod StepRules
 pub mod Calls
 pub mod Walks
+pub mod Sizes
