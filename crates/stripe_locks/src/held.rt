@@ -1,6 +1,7 @@
 //! Replies that are held over the stripes on which their calls were made.
 ghost use Rattle.std.specs.Prelude.{◌≡◌};
-ghost use Rattle.stripe_locks.specs.Holding.{position_of};
+ghost use Rattle.ticket_order.specs.Sizes.{text_bytes};
+ghost use Rattle.stripe_locks.specs.Holding.{position_of, reply_of};
 
 use crate::rule::Pass;
 use map_types::Reply;
@@ -24,8 +25,10 @@ impl Held {
         self.held.position()
     }
 
-    /// How many bytes the text of its reply has, if it has one: so much memory is held with it.
-    pub fn text_bytes(&self) -> usize {
+    /// How many bytes the text has that the reply has, or 0 if it has none.
+    pub fn text_bytes(&self) -> usize
+        ensures { result ≡ text_bytes (reply_of self.now) }
+    {
         self.held.text_bytes()
     }
 
