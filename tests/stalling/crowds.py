@@ -29,7 +29,7 @@ GETS = 1000
 # How many keys there are. Of more, by hand: how long a Count may take, and how much longer a Get at the 99th percentile.
 USUAL_KEYS = 20_000
 COUNT_SECONDS, SLOWER = 1, 3
-DEAF, DEAF_BYTES = 4000, 320 << 10
+DEAF, DEAF_BYTES = 4000, 128 << 10
 # What they ask for first, which fills a socket nearly; then a row, or as much as the server reads at a time.
 FIRST, ROW, PIECE = GET_LONG * 50, GET_LONG * 64, GET_LONG * 7000
 # How many of them come before they are waited for.
