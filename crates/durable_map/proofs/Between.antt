@@ -6,17 +6,16 @@ use Rattle.map_types.specs.declared.refusals.Refusal.TheVariants as refusal
 use Rattle.ticket_order.specs.declared.record.Record.{Record}
 use Rattle.ticket_order.specs.Calls.{RefusesSweep}
 use Rattle.ticket_order.specs.Records.{failing, missing, publishing}
-use Rattle.ticket_order.specs.StepRules.{AllLegalSections}
 use Rattle.flusher.specs.declared.keeper.Keeper.{Keeper}
 use Rattle.flusher.specs.KeeperSteps.{SweepsOnce}
 use Rattle.checkpoint_walk.specs.Walking.{AfterRefusal, GivesSection, MissesStripe, PutsBack, StaysAt}
-use Rattle.durable_map.specs.LockedKeepers.{Keeps, KeepsSealed}
+use Rattle.durable_map.specs.LockedKeepers.{Keeps, KeepsSealed, OnlyCaptures}
 use Rattle.durable_map.proofs.Sections.{CapturesNone, missed, not_captured, not_swept, stay_legal}
 use Rattle.durable_map.proofs.Sections as sections
 
--- What was captured are parts of the history, and the sealed checkpoint is kept.
+-- The pass made no call, what was captured are parts of the history, and the sealed checkpoint is kept.
 pub record IsBetween {D : Type 0} (states : D → List Files) (honest : D → Type 0) (n : ℕ) (keeper : Keeper D) (p : Record) : Type 0 where
-  pub captured : AllLegalSections n p p.sections
+  pub captured : OnlyCaptures n p
   pub sealed : KeepsSealed states honest keeper
 
 pub of_kept : {D : Type 0} (states : D → List Files) (honest : D → Type 0) (n : ℕ) (keeper : Keeper D) (p : Record) → Keeps states honest n keeper p → IsBetween states honest n keeper p
@@ -31,7 +30,7 @@ module _ {D : Type 0} (states : D → List Files) (honest : D → Type 0) (n str
 
   misses : (i : ℕ) → MissesStripe stripe i old new p w → IsBetween states honest n new w
   misses i k =
-      let legal : AllLegalSections n w w.sections = subst (λ (x : Record). AllLegalSections n x x.sections) (sym k.missed) (stay_legal n p (missing p stripe) (missed p stripe) b.captured) in
+      let legal : OnlyCaptures n w = subst (λ (x : Record). OnlyCaptures n x) (sym k.missed) (stay_legal n p (missing p stripe) (missed p stripe) b.captured) in
       subst (λ (x : Keeper D). IsBetween states honest n x w) (sym k.is) (record { captured = legal; sealed = b.sealed })
 
   stays : StaysAt old new p w → IsBetween states honest n new w
@@ -75,7 +74,7 @@ module _ {D : Type 0} (states : D → List Files) (honest : D → Type 0) (n : �
       → (old.has_failed ≡ true → (w ≡ p) × (new ≡ old)) → IsBetween states honest n new w
   published false is publishes stops =
       let k = publishes is in
-      let legal : AllLegalSections n w w.sections = subst (λ (x : Record). AllLegalSections n x x.sections) (sym k.0) (stay_legal n p (publishing p old.log.committed) (sections.published p old.log.committed) b.captured) in
+      let legal : OnlyCaptures n w = subst (λ (x : Record). OnlyCaptures n x) (sym k.0) (stay_legal n p (publishing p old.log.committed) (sections.published p old.log.committed) b.captured) in
       subst (λ (x : Keeper D). IsBetween states honest n x w) (sym k.1) (record { captured = legal; sealed = b.sealed })
   published true is publishes stops =
       let k = stops is in
@@ -83,5 +82,5 @@ module _ {D : Type 0} (states : D → List Files) (honest : D → Type 0) (n : �
 
   pub failed : w ≡ failing p → new ≡ record old { has_failed = true } → IsBetween states honest n new w
   failed record_is is =
-      let legal : AllLegalSections n w w.sections = subst (λ (x : Record). AllLegalSections n x x.sections) (sym record_is) (stay_legal n p (failing p) (sections.failed p) b.captured) in
+      let legal : OnlyCaptures n w = subst (λ (x : Record). OnlyCaptures n x) (sym record_is) (stay_legal n p (failing p) (sections.failed p) b.captured) in
       subst (λ (x : Keeper D). IsBetween states honest n x w) (sym is) (record { captured = legal; sealed = b.sealed })

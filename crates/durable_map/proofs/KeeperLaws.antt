@@ -14,11 +14,10 @@ use Rattle.store_invariant.specs.States.{Held, StoreState}
 use Rattle.store_invariant.specs.StoreStates.{LogsStand, MayCapture, WriterStands}
 use Rattle.ticket_order.specs.declared.record.Record.{Record}
 use Rattle.ticket_order.specs.Legality.{history_of}
-use Rattle.ticket_order.specs.StepRules.{AllLegalSections}
 use Rattle.flusher.specs.declared.keeper.Keeper.{Keeper}
 use Rattle.flusher.specs.Fitting.{Fits, IsTakenFront, StopsFit, store_of}
 use Rattle.flusher.specs.KeeperSteps.{is_walking}
-use Rattle.durable_map.specs.LockedKeepers.{CapturesStand, Keeps, KeepsSealed}
+use Rattle.durable_map.specs.LockedKeepers.{CapturesStand, Keeps, KeepsSealed, OnlyCaptures}
 
 captures : (n : ℕ) (h : History) (store : StoreState) (held : Held) (files : Files) (o : Option CheckpointState) → WriterStands o store held (files (checkpoint_file (store.sealed + 1)))
     → MayCapture h o held.sections store.log.committed → IfSome o (λ w. w.stripes ≡ n) → CapturesStand n h o files
@@ -74,7 +73,7 @@ module _ {D : Type 0} (states : D → List Files) (honest : D → Type 0) (n : �
       writes.generation
 
   pub keeps : is_walking keeper.sweeper.walking ≡ false → keeper.capture ≡ None → IsTakenFront done keeper.log.committed p → (honest keeper.disk → StopsFit (history_of p) keeper (now (states keeper.disk)))
-      → AllLegalSections n p p.sections → (keeper.is_broken ≡ true → KeepsSealed states honest keeper) → Keeps states honest n keeper p
+      → OnlyCaptures n p → (keeper.is_broken ≡ true → KeepsSealed states honest keeper) → Keeps states honest n keeper p
   keeps still over taken stops captured after = record {
     done = done;
     fits = fits;

@@ -18,37 +18,42 @@ use Rattle.std.specs.Arc.{arc_value}
 use Rattle.stripe_locks.specs.Passes.{recorded, stripe_count}
 use Rattle.journal.specs.declared.own_steps.OwnSteps.{OwnSteps}
 use Rattle.flusher.specs.Fitting.{HasSeenMore}
+use Rattle.durable_map.specs.LockedKeepers.{OnlyCaptures}
 
--- The pass captured nothing more, and may have seen more.
+-- The pass made no call and captured nothing more, and may have seen more.
 pub record CapturesNone (p w : Record) : Type 0 where
+  pub calls : w.calls ≡ p.calls
   pub opening : w.opening ≡ p.opening
   pub sections : w.sections ≡ p.sections
   pub seen : HasSeenMore p w
 
-pub stay_legal : (n : ℕ) (p w : Record) → CapturesNone p w → AllLegalSections n p p.sections → AllLegalSections n w w.sections
-stay_legal n p w k legal = subst (λ (xs : List Section). AllLegalSections n w xs) (sym k.sections) (sections_longer n p w k.seen.more k.opening k.seen.is p.sections legal)
+pub stay_legal : (n : ℕ) (p w : Record) → CapturesNone p w → OnlyCaptures n p → OnlyCaptures n w
+stay_legal n p w k only = record {
+  idle = k.calls ∙ only.idle;
+  legal = subst (λ (xs : List Section). AllLegalSections n w xs) (sym k.sections) (sections_longer n p w k.seen.more k.opening k.seen.is p.sections only.legal);
+}
 
-pub none_by : (p w : Record) → w.opening ≡ p.opening → w.sections ≡ p.sections → w.seen ≡ p.seen → CapturesNone p w
-none_by p w opening sections seen = record { opening = opening; sections = sections; seen = record { more = []; is = seen ∙ sym (append-nil p.seen) } }
+pub none_by : (p w : Record) → w.calls ≡ p.calls → w.opening ≡ p.opening → w.sections ≡ p.sections → w.seen ≡ p.seen → CapturesNone p w
+none_by p w calls opening sections seen = record { calls = calls; opening = opening; sections = sections; seen = record { more = []; is = seen ∙ sym (append-nil p.seen) } }
 
 same : (p : Record) → CapturesNone p p
-same p = none_by p p refl refl refl
+same p = none_by p p refl refl refl refl
 
 pub missed : (p : Record) (i : ℕ) → CapturesNone p (missing p i)
-missed p i = none_by p (missing p i) refl refl refl
+missed p i = none_by p (missing p i) refl refl refl refl
 
 pub published : (p : Record) (count : ℕ) → CapturesNone p (publishing p count)
-published p count = none_by p (publishing p count) refl refl refl
+published p count = none_by p (publishing p count) refl refl refl refl
 
 pub failed : (p : Record) → CapturesNone p (failing p)
-failed p = none_by p (failing p) refl refl refl
+failed p = none_by p (failing p) refl refl refl refl
 
 -- a stripe was taken, and given back
 took : (p : Record) (i : ℕ) (part : Map) (outbox : List Entry) (last : ℕ) (between : List Command) → CapturesNone p (giving Nothing (taking p i part outbox last between))
-took p i part outbox last between = record { opening = refl; sections = append-nil p.sections; seen = record { more = between; is = refl } }
+took p i part outbox last between = record { calls = refl; opening = refl; sections = append-nil p.sections; seen = record { more = between; is = refl } }
 
 looked : (p : Record) (i : ℕ) (part : Map) (outbox : List Entry) (last : ℕ) (taken after : List Command) → CapturesNone p (giving Nothing (looking (taking p i part outbox last taken) after))
-looked p i part outbox last taken after = record { opening = refl; sections = append-nil p.sections; seen = record { more = taken ++ after; is = append_assoc p.seen taken after } }
+looked p i part outbox last taken after = record { calls = refl; opening = refl; sections = append-nil p.sections; seen = record { more = taken ++ after; is = append_assoc p.seen taken after } }
 
 back_from : (p holder w : Record) → w ≡ giving Nothing holder → CapturesNone p (giving Nothing holder) → CapturesNone p w
 back_from p holder w is k = subst (λ (x : Record). CapturesNone p x) (sym is) k
@@ -57,13 +62,13 @@ put_back : (p holder w : Record) (i : ℕ) → HasLookedAt p i holder → w ≡ 
 put_back p holder w i h is = back_from p holder w is (subst (λ (x : Record). CapturesNone p (giving Nothing x)) (sym h.is) (looked p i h.part h.outbox h.last h.taken h.looked))
 
 -- the journal's pass made no step
-pub of_same_steps : (old new : OwnSteps) → new ≡ old → AllLegalSections (stripe_count (arc_value old.stripes)) (recorded old.pass) (recorded old.pass).sections → AllLegalSections (stripe_count (arc_value new.stripes)) (recorded new.pass) (recorded new.pass).sections
-of_same_steps old new same legal = subst (λ (s : OwnSteps). AllLegalSections (stripe_count (arc_value s.stripes)) (recorded s.pass) (recorded s.pass).sections) (sym same) legal
+pub of_same_steps : (old new : OwnSteps) → new ≡ old → OnlyCaptures (stripe_count (arc_value old.stripes)) (recorded old.pass) → OnlyCaptures (stripe_count (arc_value new.stripes)) (recorded new.pass)
+of_same_steps old new same only = subst (λ (s : OwnSteps). OnlyCaptures (stripe_count (arc_value s.stripes)) (recorded s.pass)) (sym same) only
 
 -- ---- a sweep of one stripe
 
 pub swept : (n i : ℕ) (p w : Record) (entries : List Entry) → SweepsStripe n p i entries w → CapturesNone p w
-swept n i p w entries s = subst (λ (x : Record). CapturesNone p x) (sym s.is) (record { opening = refl; sections = append-nil p.sections; seen = record { more = s.between; is = refl } })
+swept n i p w entries s = subst (λ (x : Record). CapturesNone p x) (sym s.is) (record { calls = refl; opening = refl; sections = append-nil p.sections; seen = record { more = s.between; is = refl } })
 
 pub not_swept : (i : ℕ) (p w : Record) (e : Refusal) → RefusesSweep p i e w → CapturesNone p w
 not_swept i p w refusal.NullValue r = absurd r
@@ -110,12 +115,14 @@ not_captured i p w refusal.NotText r = absurd r
 not_captured i p w refusal.SeatsSpent r = absurd r
 
 -- what it has captured is legal, and so is what it captures now
-pub captured : (n i mark : ℕ) (p w : Record) (entries : List (List ℕ × Value)) → CapturesStripe n p i mark entries w → AllLegalSections n p p.sections → AllLegalSections n w w.sections
-captured n i mark p w entries c legal =
+pub captured : (n i mark : ℕ) (p w : Record) (entries : List (List ℕ × Value)) → CapturesStripe n p i mark entries w → OnlyCaptures n p → OnlyCaptures n w
+captured n i mark p w entries c only =
     let at = giving Capture (looking (taking p i c.part c.outbox c.last c.taken) c.looked) in
     let seen : at.seen ≡ p.seen ++ (c.taken ++ c.looked) = append_assoc p.seen c.taken c.looked in
-    let old : AllLegalSections n at p.sections = sections_longer n p at (c.taken ++ c.looked) refl seen p.sections legal in
+    let old : AllLegalSections n at p.sections = sections_longer n p at (c.taken ++ c.looked) refl seen p.sections only.legal in
     let here : IsLegalSection n (history_of at) (record { stripe = i; mark = reach at; part = c.part }) =
     subst (λ (x : Record). IsLegalSection n (history_of x) (record { stripe = i; mark = reach x; part = c.part })) c.is
     (subst (λ (m : ℕ). IsLegalSection n (history_of w) (record { stripe = i; mark = m; part = c.part })) c.mark_is c.legal) in
-    subst (λ (x : Record). AllLegalSections n x x.sections) (sym c.is) (sections_both n at p.sections (record { stripe = i; mark = reach at; part = c.part } ∷ []) old (here, tt))
+    let legal : AllLegalSections n at at.sections = sections_both n at p.sections (record { stripe = i; mark = reach at; part = c.part } ∷ []) old (here, tt) in
+    let calls : at.calls ≡ p.calls = refl in
+    subst (λ (x : Record). OnlyCaptures n x) (sym c.is) (record { idle = calls ∙ only.idle; legal = legal })

@@ -1,5 +1,5 @@
 -- What the locked value keeps: a keeper and its pass, between any two of its calls.
-use Rattle.std.specs.Prelude.{◌≡◌, ◌⊎◌, ℕ, ◌≤◌, max, List, Option, None, Some, Bool, true, false}
+use Rattle.std.specs.Prelude.{◌≡◌, ◌⊎◌, ℕ, ◌≤◌, max, List, [], Option, None, Some, Bool, true, false}
 use Rattle.disk_model.specs.Files.{Files, now}
 use Rattle.map_types.specs.declared.commands.Command.{Command}
 use Rattle.map_model.specs.Histories.{History}
@@ -43,6 +43,12 @@ KeepsSealed states honest keeper =
 pub record HasCause {D : Type 0} (is_full : Bool) (keeper : Keeper D) : Type 0 where
   pub cause : keeper.has_failed ≡ true → (keeper.is_broken ≡ true) ⊎ (is_full ≡ true)
 
+-- The pass under the lock made no call, and each section that it captured is the part of its stripe after as many
+-- commands of the history as its mark says.
+pub record OnlyCaptures (n : ℕ) (p : Record) : Type 0 where
+  pub idle : p.calls ≡ []
+  pub legal : AllLegalSections n p p.sections
+
 -- The keeper over n stripes, and the record of its pass. Neither a sweep nor a capture walks.
 pub record Keeps {D : Type 0} (states : D → List Files) (honest : D → Type 0) (n : ℕ) (keeper : Keeper D)
     (p : Record) : Type 0 where
@@ -57,8 +63,8 @@ pub record Keeps {D : Type 0} (states : D → List Files) (honest : D → Type 0
   -- whatever a stop leaves now stands for a front of the history, with what is committed and no more than what is
   -- staged besides
   pub stops : honest keeper.disk → StopsFit (history_of p) keeper (now (states keeper.disk))
-  -- each section that was captured is the part of its stripe after as many commands of the history as its mark says
-  pub captured : AllLegalSections n p p.sections
+  -- the pass makes no call of its own, and what it captures is legal
+  pub captured : OnlyCaptures n p
   -- until a device call fails, so are those that the file of the checkpoint under way was given
   pub given : keeper.is_broken ≡ false → honest keeper.disk
       → CapturesStand n (history_of p) keeper.checkpoint (now (states keeper.disk))

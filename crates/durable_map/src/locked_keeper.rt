@@ -2,10 +2,9 @@
 //! keeps what a stop is to leave, neither sweeps nor captures, and holds no stripe.
 ghost use Rattle.std.specs.Prelude.{◌≡◌, true, false, IfErr};
 ghost use Rattle.std.specs.Arc.{arc_value};
-ghost use Rattle.ticket_order.specs.StepRules.{AllLegalSections};
 ghost use Rattle.stripe_locks.specs.Holding.{name_of_words};
 ghost use Rattle.stripe_locks.specs.Passes.{recorded, stripe_count};
-ghost use Rattle.durable_map.specs.LockedKeepers.{HasCause, Keeps, KeepsSealed};
+ghost use Rattle.durable_map.specs.LockedKeepers.{HasCause, Keeps, KeepsSealed, OnlyCaptures};
 
 use crate::telling::{Done, SealedCheckpoint, Standing};
 use checkpoint_file::CheckpointPhase;
@@ -35,12 +34,13 @@ pub(crate) enum Turn {
     Awaited,
 }
 
-/// What a stop is to leave of a journal, if its sections and its sealed checkpoint are kept: its sweeps
+/// What a stop is to leave of a journal, if its pass made no call, and its sections and its sealed checkpoint
+/// are kept: its sweeps
 /// took what is committed, no more is published, and what a stop leaves stands for that. Until a
 /// device call fails, the marks of the sealed checkpoint are committed.
 pub(crate) fn what_is_kept<D: Disk>(journal: &Journal<D, OwnSteps>)
-    ensures { AllLegalSections (stripe_count (arc_value journal.now.steps.stripes))
-        (recorded journal.now.steps.pass) (recorded journal.now.steps.pass).sections
+    ensures { OnlyCaptures (stripe_count (arc_value journal.now.steps.stripes))
+        (recorded journal.now.steps.pass)
         → (journal.now.keeper.is_broken ≡ true
         → KeepsSealed D.states D.honest journal.now.keeper)
         → Keeps D.states D.honest (stripe_count (arc_value journal.now.steps.stripes))
