@@ -1,10 +1,6 @@
 -- How each step of a change and of a read leads from one standing to the next.
 use Rattle.std.proofs.Common.{◌≡◌, ℕ, ◌+◌, ◌<◌, ◌≤◌, max, Bool, true, false, List, [], ◌∷◌, ◌++◌, Some, None, length, length-append, lt-ltb, refl, sym, ap, ◌∙◌, subst, arith, inl, inr}
-use Rattle.std.specs.Prelude.{if◌then◌else◌}
 use Rattle.java_hash.specs.Stripes.{stripe_of}
-use Rattle.bin_transfer.specs.Split.{AfterHelp}
-use Rattle.bin_transfer.specs.Due.{is_due}
-use Rattle.atomic_methods.specs.PartState.{Growth, PartState, HasGrown, growing_of}
 use Rattle.map_types.specs.declared.commands.Command.{Command}
 use Rattle.map_types.specs.declared.commands.Read as read_type
 use Rattle.map_types.specs.declared.refusals.Refusal.{Refusal}
@@ -24,16 +20,6 @@ use Rattle.ticket_order.specs.StepRules.{Rises, IsLast, EndsAt, TakesStripe, Loo
 use Rattle.ticket_order.specs.Calls.{walked, HasFound, FindsFailure, FindsNoFailure, FindsAlive, LooksAround, GivesBack, MakesCall, MakesRead, ReadsAt}
 use Rattle.ticket_order.specs.Walks.{Task, ToChange, ToRead, Refuses, HasContent, TookContent, TookAlive, TookLooked, OfTask, HasChanged, HasMade, HasAnswer, IsRefusing}
 use Rattle.ticket_order.proofs.Apart.{not_full_by_memory, not_full_by_failure, not_full_by_tickets}
-
--- what acts on the part of a change leaves its growth
-pub grown_still : (before mid after : PartState) → after.growth ≡ mid.growth → HasGrown before mid → HasGrown before after
-grown_still before mid after same grown = elim grown [
-  | inl off ↦ inl record { due = off.due; bins = ap (λ (g : Growth). g.bins) same ∙ off.bins; moved = ap (λ (g : Growth). g.moved) same ∙ off.moved }
-  | inr on ↦ inr record {
-    count = on.count;
-    helped = subst (λ (g : Growth). AfterHelp before.growth.bins (if is_due (growing_of before) then Some 0 else before.growth.moved) on.count g.bins g.moved) (sym same) on.helped;
-  }
-]
 
 -- what is held may be given back
 pub may_give_back : (n : ℕ) (p : Record) (t : Taken) → HasContent p t → MayGive n p t.stripe t.content Nothing

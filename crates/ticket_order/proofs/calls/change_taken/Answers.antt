@@ -1,8 +1,9 @@
 use Rattle.std.proofs.Common.{◌≡◌, ◌<◌, false, refl, subst}
 use Rattle.java_hash.specs.Stripes.{stripe_of}
+use Rattle.atomic_methods.proofs.GrowthLaws.{grown_still}
 use Rattle.ticket_order.specs.Records.{ticket_limit}
 use Rattle.ticket_order.specs.Walks.{ToChange}
-use Rattle.ticket_order.proofs.Walking.{found_content, content_lived, content_looked, given_back_alive, took_alive, took_looked, same_looked, within_since, change_failed, change_spent, change_starved, grown_still}
+use Rattle.ticket_order.proofs.Walking.{found_content, content_lived, content_looked, given_back_alive, took_alive, took_looked, same_looked, within_since, change_failed, change_spent, change_starved}
 use Rattle.ticket_order.proofs.calls.change_taken.Goals as goal
 
 pub returns-then-not-alive-clause-content : goal.returns-then-not-alive-clause-content
