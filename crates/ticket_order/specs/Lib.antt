@@ -5,3 +5,4 @@ pub mod StepRules
 pub mod Calls
 pub mod Walks
 pub mod Sizes
+pub mod Growing
