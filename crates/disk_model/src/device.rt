@@ -4,10 +4,18 @@ ghost use Rattle.std.specs.Prelude.{◌<◌, ◌≤◌, length, IfOk, IfSome};
 use std::fs::File;
 use std::io;
 use std::os::unix::fs::{FileExt, MetadataExt};
-use std::sync::atomic::{AtomicU64, Ordering};
+use std::sync::atomic::{AtomicBool, AtomicU64, Ordering};
 
 /// The names of the four files, in the order of their numbers.
 pub(crate) const NAMES: [&str; 4] = ["ckpt-a", "ckpt-b", "log-a", "log-b"];
+
+/// What is said of a file that has no name any more.
+const REMOVED: &str = "it was removed";
+
+/// The error of a file that has no name any more.
+pub(crate) fn removal() -> io::Error {
+    io::Error::new(io::ErrorKind::NotFound, REMOVED)
+}
 
 /// A device call that was begun and has not ended.
 #[derive(Clone, Copy, Debug, PartialEq, Eq)]
@@ -50,12 +58,14 @@ impl Calls {
 }
 
 /// Four files, of which some may be absent. Each call of one is counted while it is made and after it.
+/// Once they are given up as removed, each call fails and asks no device.
 #[derive(Drop)]
 pub(crate) struct Device {
     // the lock of the directory, which lasts as long as this value
     _lock: Option<File>,
     files: [Option<File>; 4],
     calls: [Calls; 4],
+    is_removed: AtomicBool,
 }
 
 impl Device {
@@ -74,13 +84,28 @@ impl Device {
             _lock: lock,
             files,
             calls: [Calls::new(), Calls::new(), Calls::new(), Calls::new()],
+            is_removed: AtomicBool::new(false),
         }
+    }
+
+    /// Has each call from now on fail, since the files were removed.
+    pub(crate) fn give_up(&self) {
+        self.is_removed.store(true, Ordering::SeqCst);
+    }
+
+    /// An error, once the files were given up.
+    fn see_kept(&self) -> io::Result<()> {
+        if self.is_removed.load(Ordering::SeqCst) {
+            return Err(removal());
+        }
+        Ok(())
     }
 
     /// How many bytes the file has; 0 if it is absent.
     pub(crate) fn len(&self, file: usize) -> io::Result<usize>
         requires { file < 4 }
     {
+        self.see_kept()?;
         self.calls[file].begin();
         let made = measure(&self.files[file]);
         self.calls[file].end();
@@ -92,6 +117,7 @@ impl Device {
         requires { file < 4 }
         ensures { IfOk result (λ n. n ≤ length buf.old) }
     {
+        self.see_kept()?;
         self.calls[file].begin();
         let made = read_bytes(&self.files[file], at, buf);
         self.calls[file].end();
@@ -102,6 +128,7 @@ impl Device {
     pub(crate) fn write(&self, file: usize, at: usize, bytes: &[u8]) -> io::Result<()>
         requires { file < 4 }
     {
+        self.see_kept()?;
         self.calls[file].begin();
         let made = write_all(&self.files[file], at, bytes);
         self.calls[file].end();
@@ -112,6 +139,7 @@ impl Device {
     pub(crate) fn sync(&self, file: usize) -> io::Result<()>
         requires { file < 4 }
     {
+        self.see_kept()?;
         self.calls[file].begin();
         let made = sync_data(&self.files[file]);
         self.calls[file].end();

@@ -1,14 +1,11 @@
 //! The first call of a directory's files that failed, and the files themselves, told apart from the disk.
 ghost use Rattle.std.specs.Prelude.{◌<◌};
 
-use crate::device::{Device, DeviceCall, NAMES};
+use crate::device::{Device, DeviceCall, NAMES, removal};
 use std::alloc::{AllocError, Global};
 use std::io;
 use std::sync::{Arc, OnceLock};
 use thiserror::Error;
-
-/// What is said of a file that has no name any more.
-const REMOVED: &str = "it was removed";
 
 /// A call of a file that failed.
 #[derive(Debug, Drop, Error)]
@@ -71,13 +68,15 @@ impl FirstError {
     }
 
     /// Whether one of the four files has no name any more, as after `rm -r`: what is written to it is
-    /// lost once the process ends. Then this is the first error, unless there was one. It asks the
-    /// system about each file, and so may wait for a file system that doesn't answer.
+    /// lost once the process ends. Then this is the first error, unless there was one, and each call of
+    /// the disk fails from now on. It asks the system about each file, and so may wait for a file system
+    /// that doesn't answer.
     pub fn note_removal(&self) -> bool {
         let Some(file) = self.device().nameless() else {
             return false;
         };
-        self.note(file, io::Error::new(io::ErrorKind::NotFound, REMOVED));
+        self.note(file, removal());
+        self.device().give_up();
         true
     }
 
