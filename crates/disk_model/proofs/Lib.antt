@@ -1,3 +1,4 @@
+pub mod EventLemmas
 pub mod FileLemmas
 pub mod FillLemmas
 pub mod KeptLemmas

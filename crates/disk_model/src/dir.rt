@@ -1,20 +1,19 @@
 //! Four files of a directory.
-ghost use Rattle.std.specs.Prelude.{◌≡◌, ◌≤◌, ℕ, List, [], ◌∷◌, length, IfOk};
+ghost use Rattle.std.specs.Prelude.{◌≡◌, ◌<◌, ◌≤◌, ℕ, List, [], ◌∷◌, length, slice_index_or, Option, IsTrue, IfOk};
 ghost use Rattle.disk_model.specs.Files.{Files, AreCoherent, AllCoherent, AllCoherent-prop, empty_files, empty_coherent};
 ghost use Rattle.disk_model.specs.Fills.{HasBytes};
 ghost use Rattle.disk_model.specs.Events.{states_from, failures_of, AllAgree};
+ghost use Rattle.disk_model.specs.declared.file_calls.OpenFile.{OpenFile};
 ghost use Rattle.disk_model.specs.declared.fill.Fill.{Fill};
 ghost use Rattle.disk_model.specs.declared.fill.Fill.TheVariants.{New};
 
 use crate::device::{Device, NAMES};
+use crate::file_calls::{CallLog, FileCalls, OpenFile};
 use crate::first_error::FirstError;
-use crate::past::{Note, Past};
 use crate::{DeviceError, Disk};
 use std::alloc::{AllocError, Global};
 use std::fs::{File, OpenOptions, TryLockError};
 use std::io;
-use std::marker::PhantomData;
-use std::os::fd::AsRawFd;
 use std::os::unix::fs::OpenOptionsExt;
 use std::rt::Files as FileSystem;
 
@@ -27,7 +26,7 @@ const IN_USE: &str = "in use by another process";
 
 /// What the files hold as they are opened, which no code can read. A function over `S: Start` is
 /// proved for all that they may hold.
-pub trait Start: Drop {
+pub trait Start: FileCalls {
     /// What a read gives of each file, and what is pending there.
     ghost files: { Files };
 
@@ -59,10 +58,11 @@ impl Start for Unknown {
 /// system's exclusive locks on the directory's file `lock`, and on each of the four that is there.
 #[derive(Drop)]
 pub struct DirDisk<S: Start> {
-    past: Past,
+    calls: CallLog<S>,
     first_error: FirstError,
-    start: PhantomData<S>,
-    ghost coherent: { AllCoherent (states_from S.Start.files S.Start.left past.events) } by { AllCoherent-prop (states_from S.Start.files S.Start.left past.events) },
+    ghost coherent: { AllCoherent (states_from S.Start.files S.Start.left calls.past.events) } by { AllCoherent-prop (states_from S.Start.files S.Start.left calls.past.events) },
+    ghost files: { (n : ℕ) → (other : Option OpenFile) → n < 4
+        → IsTrue (S.FileCalls.is_file n (slice_index_or first_error.watched.value.device.files n other)) },
 }
 
 impl<S: Start> DirDisk<S> {
@@ -75,11 +75,11 @@ impl<S: Start> DirDisk<S> {
         rt: &R,
         alloc: Global,
         directory: &str,
-        _start: S,
+        start: S,
     ) -> io::Result<DirDisk<S>>
-        ensures { IfOk result (λ disk. disk.past.events ≡ []) }
+        ensures { IfOk result (λ disk. disk.calls.past.events ≡ []) }
     {
-        open_files(rt, alloc, directory, &options(false))
+        open_files(rt, alloc, directory, &options(false), start)
     }
 
     /// The same, but makes the files that are absent once the directory is locked. Their owner alone may
@@ -88,11 +88,11 @@ impl<S: Start> DirDisk<S> {
         rt: &R,
         alloc: Global,
         directory: &str,
-        _start: S,
+        start: S,
     ) -> io::Result<DirDisk<S>>
-        ensures { IfOk result (λ disk. disk.past.events ≡ []) }
+        ensures { IfOk result (λ disk. disk.calls.past.events ≡ []) }
     {
-        open_files(rt, alloc, directory, &options(true))
+        open_files(rt, alloc, directory, &options(true), start)
     }
 
     /// What tells of the files and of the first call that fails, also after the disk was handed on.
@@ -113,18 +113,17 @@ fn open_files<R: FileSystem<File = File>, S: Start>(
     alloc: Global,
     directory: &str,
     how: &OpenOptions,
+    start: S,
 ) -> io::Result<DirDisk<S>>
-    ensures { IfOk result (λ disk. disk.past.events ≡ []) }
+    ensures { IfOk result (λ disk. disk.calls.past.events ≡ []) }
 {
     let lock = lock_directory(rt, format!(in alloc; "{directory}/lock")?)?;
     let files = open_four(rt, alloc, directory, how)?;
     // The names too are to be there after a stop.
     File::open(rt, directory)?.sync_all()?;
-    Ok(DirDisk {
-        past: Past::new(),
-        first_error: FirstError::of(alloc, Device::locked(lock, files))?,
-        start: PhantomData,
-    })
+    let calls = start.begin(&files);
+    let first_error = FirstError::of(alloc, Device::locked(lock, files))?;
+    Ok(DirDisk { calls, first_error })
 }
 
 /// The four files, each locked, of which some may be absent. The first read of one asks the device: over a
@@ -134,12 +133,12 @@ fn open_four<R: FileSystem<File = File>>(
     alloc: Global,
     directory: &str,
     how: &OpenOptions,
-) -> io::Result<[Option<File>; 4]> {
+) -> io::Result<[Option<OpenFile>; 4]> {
     let mut files = [None, None, None, None];
     for (file, name) in files.iter_mut().zip(&NAMES) {
         *file = open_one(rt, how, format!(in alloc; "{directory}/{name}")?)?;
     }
-    files.iter().flatten().for_each(give_up_cached);
+    files.iter().flatten().for_each(OpenFile::give_up_cached);
     Ok(files)
 }
 
@@ -162,88 +161,68 @@ fn open_locked<R: FileSystem<File = File>>(
     }
 }
 
-/// Has the system give up what it has cached of the file. It is advice: if the system refuses it, the
-/// file is read as it comes.
-fn give_up_cached(file: &File) {
-    let _advised = libc::posix_fadvise(file.as_raw_fd(), 0, 0, libc::POSIX_FADV_DONTNEED);
-}
-
 fn open_one<R: FileSystem<File = File>>(
     rt: &R,
     how: &OpenOptions,
     path: String,
-) -> io::Result<Option<File>> {
+) -> io::Result<Option<OpenFile>> {
     match open_locked(rt, how, path) {
-        Ok(file) => Ok(Some(file)),
+        Ok(file) => Ok(Some(OpenFile::new(file))),
         Err(error) if error.kind() == io::ErrorKind::NotFound => Ok(None),
         Err(error) => Err(error),
     }
 }
 
 impl<S: Start> Disk for DirDisk<S> {
-    ghost states = { λ disk. states_from S.Start.files S.Start.left disk.past.events };
+    ghost states = { λ disk. states_from S.Start.files S.Start.left disk.calls.past.events };
 
-    ghost failures = { λ disk. failures_of disk.past.events };
+    ghost failures = { λ disk. failures_of disk.calls.past.events };
 
-    ghost honest = { λ disk. AllAgree S.Start.files S.Start.left disk.past.events };
+    ghost honest = { λ disk. AllAgree S.Start.files S.Start.left disk.calls.past.events };
 
     fn len(&mut self, file: usize) -> Result<usize, DeviceError> {
-        match self.first_error.device().len(file) {
-            Ok(len) => {
-                self.past = self.past.with(&Note::Measured { file, len });
-                Ok(len)
-            }
+        match self.first_error.device().len(&mut self.calls, file) {
+            Ok(len) => Ok(len),
             Err(error) => {
                 self.first_error.note(file, error);
-                self.past = self.past.with(&Note::Failed);
                 Err(DeviceError)
             }
         }
     }
 
     fn read(&mut self, file: usize, at: usize, buf: &mut [u8]) -> Result<usize, DeviceError> {
-        let room = buf.len();
-        match self.first_error.device().read(file, at, buf) {
-            Ok(count) => {
-                self.past = self.past.with(&Note::Gave {
-                    file,
-                    at,
-                    room,
-                    bytes: &buf[..count],
-                });
-                Ok(count)
-            }
+        match self
+            .first_error
+            .device()
+            .read(&mut self.calls, file, at, buf)
+        {
+            Ok(count) => Ok(count),
             Err(error) => {
                 self.first_error.note(file, error);
-                self.past = self.past.with(&Note::Failed);
                 Err(DeviceError)
             }
         }
     }
 
     fn write_at(&mut self, file: usize, at: usize, bytes: &[u8]) -> Result<(), DeviceError> {
-        match self.first_error.device().write(file, at, bytes) {
-            Ok(()) => {
-                self.past = self.past.with(&Note::Wrote { file, at, bytes });
-                Ok(())
-            }
+        match self
+            .first_error
+            .device()
+            .write(&mut self.calls, file, at, bytes)
+        {
+            Ok(()) => Ok(()),
             Err(error) => {
                 self.first_error.note(file, error);
-                self.past = self.past.with(&Note::Broke { file, at, bytes });
                 Err(DeviceError)
             }
         }
     }
 
     fn sync(&mut self, file: usize) -> Result<(), DeviceError> {
-        match self.first_error.device().sync(file) {
-            Ok(()) => {
-                self.past = self.past.with(&Note::Synced { file });
-                Ok(())
-            }
+        match self.first_error.device().sync(&mut self.calls, file) {
+            Ok(()) => Ok(()),
             Err(error) => {
                 self.first_error.note(file, error);
-                self.past = self.past.with(&Note::Failed);
                 Err(DeviceError)
             }
         }

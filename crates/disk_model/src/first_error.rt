@@ -1,14 +1,11 @@
 //! The first call of a directory's files that failed, and the files themselves, told apart from the disk.
-ghost use Rattle.std.specs.Prelude.{◌<◌};
+ghost use Rattle.std.specs.Prelude.{◌≡◌, ◌<◌, IfOk};
 
-use crate::device::{Device, DeviceCall, NAMES};
+use crate::device::{Device, DeviceCall, NAMES, removal};
 use std::alloc::{AllocError, Global};
 use std::io;
 use std::sync::{Arc, OnceLock};
 use thiserror::Error;
-
-/// What is said of a file that has no name any more.
-const REMOVED: &str = "it was removed";
 
 /// A call of a file that failed.
 #[derive(Debug, Drop, Error)]
@@ -42,7 +39,9 @@ impl FirstError {
     }
 
     /// Of these files, of which nothing has failed yet.
-    pub(crate) fn of(alloc: Global, device: Device) -> Result<FirstError, AllocError> {
+    pub(crate) fn of(alloc: Global, device: Device) -> Result<FirstError, AllocError>
+        ensures { IfOk result (λ it. it.watched.value.device ≡ device) }
+    {
         let error = OnceLock::new();
         let watched = Arc::new(alloc, Watched { device, error })?;
         Ok(FirstError { watched })
@@ -55,7 +54,9 @@ impl FirstError {
     }
 
     /// The files whose calls these are.
-    pub(crate) fn device(&self) -> &Device {
+    pub(crate) fn device(&self) -> &Device
+        ensures { result.now ≡ self.now.watched.value.device }
+    {
         &self.watched.device
     }
 
@@ -71,13 +72,15 @@ impl FirstError {
     }
 
     /// Whether one of the four files has no name any more, as after `rm -r`: what is written to it is
-    /// lost once the process ends. Then this is the first error, unless there was one. It asks the
-    /// system about each file, and so may wait for a file system that doesn't answer.
+    /// lost once the process ends. Then this is the first error, unless there was one, and each call of
+    /// the disk fails from now on. It asks the system about each file, and so may wait for a file system
+    /// that doesn't answer.
     pub fn note_removal(&self) -> bool {
-        let Some(file) = self.device().nameless() else {
+        let Some((file, found)) = self.device().nameless() else {
             return false;
         };
-        self.note(file, io::Error::new(io::ErrorKind::NotFound, REMOVED));
+        self.note(file, removal());
+        self.device().give_up(found);
         true
     }
 

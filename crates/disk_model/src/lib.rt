@@ -4,6 +4,7 @@
 mod device;
 mod dir;
 mod disk;
+mod file_calls;
 mod fill;
 mod first_error;
 mod kept;
@@ -14,6 +15,7 @@ mod plan;
 pub use device::{DeviceCall, fill_at};
 pub use dir::{DirDisk, Start, Unknown};
 pub use disk::{DeviceError, Disk};
+pub use file_calls::{CallLog, FileCalls, OpenFile};
 pub use fill::Fill;
 pub use first_error::{FileError, FirstError};
 pub use memory::MemDisk;

@@ -3,6 +3,7 @@ ghost use Rattle.std.specs.Prelude.{◌<◌};
 
 use crate::checks::assert_same;
 use disk_model::{DeviceError, DirDisk, Disk, FirstError, Unknown};
+use std::alloc::Global;
 use std::{fs, io};
 
 /// What is done with a directory, or asked of it.
@@ -34,12 +35,16 @@ enum Question {
     IsUnderWay,
     IsRemoved,
     HasFailed,
+    /// Whether its first failure reads so.
+    Tells(&'static str),
 }
 
 /// A call of a file.
 enum Call {
     /// Writes at a place, unless the file ends before it.
     Put(usize, &'static [u8]),
+    /// Writes at the start, whatever the length.
+    Write(&'static [u8]),
     Sync,
     Len,
     /// Reads from its start.
@@ -82,6 +87,7 @@ fn make_call<D: Disk>(disk: &mut D, file: usize, call: &Call) -> Result<Seen, De
 {
     match call {
         Call::Put(at, bytes) => put(disk, file, *at, bytes).map(|_| Seen::Done),
+        Call::Write(bytes) => disk.write_at(file, 0, bytes).map(|_| Seen::Done),
         Call::Sync => disk.sync(file).map(|_| Seen::Done),
         Call::Len => disk.len(file).map(Seen::Len),
         Call::Read => read(disk, file),
@@ -93,6 +99,13 @@ fn seen_of(made: io::Result<()>) -> Seen {
     match made {
         Ok(()) => Seen::Done,
         Err(_) => Seen::Failed,
+    }
+}
+
+fn tells(alloc: Global, first_error: &FirstError, text: &str) -> bool {
+    match first_error.get() {
+        Some(cause) => format!(in alloc; "{cause}").is_ok_and(|told| told.as_str() == text),
+        None => false,
     }
 }
 
@@ -132,7 +145,7 @@ impl Bench {
         Seen::Done
     }
 
-    fn ask(&self, question: &Question) -> Seen {
+    fn ask(&self, alloc: Global, question: &Question) -> Seen {
         let Some(first_error) = &self.first_error else {
             return Seen::Failed;
         };
@@ -140,6 +153,7 @@ impl Bench {
             Question::IsUnderWay => first_error.under_way().is_some(),
             Question::IsRemoved => first_error.note_removal(),
             Question::HasFailed => first_error.get().is_some(),
+            Question::Tells(text) => tells(alloc, first_error, text),
         })
     }
 
@@ -164,7 +178,7 @@ impl Bench {
             Step::With(file, call) => self.with(*file, call),
             Step::Watch => self.watch(),
             Step::Unwatch => self.unwatch(),
-            Step::Ask(question) => self.ask(question),
+            Step::Ask(question) => self.ask(rt.alloc(), question),
         }
     }
 }
@@ -263,4 +277,39 @@ static WATCHED: [(Step, Seen); 15] = [
 #[test]
 fn a_file_that_was_removed_is_told(rt: HostRuntime) {
     assert_same(&rt, &first_wrong(&rt, &WATCHED), &None);
+}
+
+/// The files go on being written until their removal is found.
+static GIVEN_UP: [(Step, Seen); 20] = [
+    (Step::Make("given_up"), Seen::Done),
+    (Step::Create("given_up"), Seen::Done),
+    (Step::Watch, Seen::Is(true)),
+    (Step::Ask(Question::IsRemoved), Seen::Is(false)),
+    (Step::With(2, Call::Put(0, b"words")), Seen::Done),
+    (Step::With(2, Call::Sync), Seen::Done),
+    (Step::Remove("given_up"), Seen::Done),
+    (Step::With(2, Call::Sync), Seen::Done),
+    (Step::Ask(Question::HasFailed), Seen::Is(false)),
+    (Step::Ask(Question::IsRemoved), Seen::Is(true)),
+    (
+        Step::Ask(Question::Tells("ckpt-a: it was removed")),
+        Seen::Is(true),
+    ),
+    (Step::With(2, Call::Put(5, b" more")), Seen::Failed),
+    (Step::With(2, Call::Write(b"words")), Seen::Failed),
+    (Step::With(2, Call::Sync), Seen::Failed),
+    (Step::With(2, Call::Len), Seen::Failed),
+    (Step::With(2, Call::Read), Seen::Failed),
+    (Step::With(0, Call::Len), Seen::Failed),
+    (Step::With(3, Call::Sync), Seen::Failed),
+    (Step::Ask(Question::IsUnderWay), Seen::Is(false)),
+    (
+        Step::Ask(Question::Tells("ckpt-a: it was removed")),
+        Seen::Is(true),
+    ),
+];
+
+#[test]
+fn each_call_fails_once_a_removal_is_found(rt: HostRuntime) {
+    assert_same(&rt, &first_wrong(&rt, &GIVEN_UP), &None);
 }

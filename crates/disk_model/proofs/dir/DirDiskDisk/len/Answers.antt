@@ -1,13 +1,17 @@
-use Rattle.disk_model.specs.Events.{states_from}
+use Rattle.std.proofs.Common.{List}
+use Rattle.disk_model.specs.Files.{AllCoherent}
+use Rattle.disk_model.specs.Events.{Event, states_from, failed, measured}
+use Rattle.disk_model.proofs.EventLemmas.{after_look}
 use Rattle.disk_model.proofs.FileLemmas.{now_coherent}
 use Rattle.disk_model.proofs.dir.DirDiskDisk.len.Goals as goal
 
 pub invariant_of-self : goal.invariant_of-self
 invariant_of-self g c =
     let old = c.args.self.now in
-    rw c.with-self.ensures (record { coherent = (now_coherent (states_from g.S.Start.files g.S.Start.left old.past.events) old.coherent, old.coherent) })
-
-pub invariant_of-self-in-Err : goal.invariant_of-self-in-Err
-invariant_of-self-in-Err g c =
-    let old = c.args.self.now in
-    rw c.with-self-in-Err.ensures (record { coherent = (now_coherent (states_from g.S.Start.files g.S.Start.left old.past.events) old.coherent, old.coherent) })
+    let states = states_from g.S.Start.files g.S.Start.left in
+    let are = now_coherent (states old.calls.past.events) old.coherent in
+    record {
+      coherent = after_look (λ (es : List Event). AllCoherent (states es)) c.len.result (λ n. measured c.args.file n) failed old.calls.past.events c.len.new.log.past.events
+          c.len.ensures.ok c.len.ensures.err (λ n. (are, old.coherent)) (are, old.coherent);
+      files = old.files;
+    }
