@@ -60,5 +60,6 @@ opens n first limit parts ws xs count are stored is =
       keeper = refl;
       unjoined = λ e. refl;
       each_stripe = λ i lt. stands_first ws xs i first (get_or parts i no_part) (slot_of i (map slot_with xs)) (omega arith) (word (i * 8 + 32) (omega arith) (omega arith)) refl (stored.each i (omega arith));
-      each_seat = alone (λ l u. Sits (λ place. 0) (at_start first parts limit 0) (get_or ws 24 0) l u u.pass.enrolled) (stepless (newcomer o)) (record { few = omega arith; front = record { rest = []; is = refl }; other_front = record { rest = []; is = refl }; borne_out = All-nil _; goes_on = record { later = []; is = refl } });
+      each_seat = alone (λ l u. Sits (λ place. 0) (at_start first parts limit 0) (get_or ws 24 0) l u u.pass.enrolled) (stepless (newcomer o)) (record { few = omega arith; front = record { rest = []; is = refl }; other_front = record { rest = []; is = refl }; borne_out = All-nil _; goes_on = record { later = []; is = refl }; listed = All-nil _ });
+      each_pass = λ j lt. absurd (omega (arith, three));
     }

@@ -1,3 +1,4 @@
+pub mod Listing
 pub mod Turning
 pub mod Stepping
 pub mod Moving

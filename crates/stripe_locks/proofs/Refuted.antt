@@ -6,7 +6,7 @@ use Rattle.std.specs.List.{All}
 use Rattle.std.proofs.lemmas.List.{set-get_or, get_or_past, same_from_push}
 use Rattle.std.proofs.lemmas.List.Elements.{All-head, All-tail}
 use Rattle.std.proofs.lemmas.Bool.{eq-eqb, ne_eqb}
-use mathlib.Core.Option.{some, none, some-ne-none}
+use mathlib.Core.Option.{some, none}
 use lib.ListN.{get_elem?}
 use Rattle.atomic_table.specs.Table.{step, Allows, stepped, Act}
 use Rattle.atomic_table.proofs.Lists.{set_here}
@@ -33,16 +33,12 @@ use Rattle.stripe_locks.specs.Holding.{IsHeldOf}
 use Rattle.stripe_locks.specs.declared.view.SeatView.{SeatView}
 use Rattle.stripe_locks.specs.Rule.{bit, IsSeated, Kept}
 use Rattle.stripe_locks.specs.Plays.{saw, lived}
+use Rattle.stripe_locks.proofs.Listing.{there_is}
 use Rattle.stripe_locks.proofs.Turning.{St, M, seated}
 
 last_of : {X : Type 0} → (P : X → Type 0) → (xs : List X) (y : X) → All P (xs ++ y ∷ []) → P y
 last_of P [] y all = All-head P y [] all
 last_of P (x ∷ xs) y all = last_of P xs y (All-tail P x (xs ++ y ∷ []) all)
-
-there_is : {X : Type 0} → (xs : List X) (i : ℕ) (x : X) → get_elem? xs i ≡ some x → i < length xs
-there_is [] i x e = absurd (some-ne-none x (sym e))
-there_is (y ∷ ys) zero x e = omega arith
-there_is (y ∷ ys) (suc i) x e = omega (arith, there_is ys i x e)
 
 -- a pass whose step is in the interleaving made one
 made_by : (l : ℕ) (x : StepMade) (xs : List PassStep) (i : ℕ) → i < length xs → get_or xs i (pass_step l x) ≡ pass_step l x → steps_by l xs ≡ [] → ⊥

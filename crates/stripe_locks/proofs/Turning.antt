@@ -1,6 +1,8 @@
 -- One step of a pass keeps the rule.
-use Rattle.std.proofs.Common.{ℕ, ◌≡◌, ◌≢◌, ◌+◌, ◌*◌, ◌<◌, ◌≤◌, Bool, true, false, List, length, get_or, set, max, Option, [], append-nil, refl, arith, sym, ◌∙◌, ap, subst, ⊎_elim}
+use Rattle.std.proofs.Common.{ℕ, ◌≡◌, ◌≢◌, ◌+◌, ◌*◌, ◌<◌, ◌≤◌, Bool, true, false, List, length, get_or, set, max, Option, [], ◌∷◌, append-nil, refl, arith, sym, ◌∙◌, ap, subst, ⊎_elim}
+use Rattle.std.specs.List.{Contains}
 use Rattle.std.proofs.lemmas.List.{set-get_or}
+use Rattle.std.proofs.lemmas.List.Elements.{All-weaker}
 use mathlib.Core.Option.{some}
 use mathlib.Core.Option as maybe
 use lib.ListN.{get_elem?}
@@ -9,6 +11,7 @@ use Rattle.atomic_table.proofs.Lists.{at_set}
 use Rattle.ticket_order.specs.declared.stripe.Stripe.{Stripe}
 use Rattle.ticket_order.specs.declared.record.Opening.{Opening}
 use Rattle.ticket_order.specs.declared.record.StepMade.{StepMade}
+use Rattle.ticket_order.specs.declared.record.Record.{Record}
 use Rattle.one_history.specs.declared.book.Book.{Book}
 use Rattle.one_history.specs.declared.slot.Slot.{Slot}
 use Rattle.one_history.specs.Turns.{record_of, pass_step}
@@ -18,8 +21,9 @@ use Rattle.one_history.specs.SharedWords.{slot_of, IsKept}
 use Rattle.one_history.proofs.Fronts.{front_trans}
 use Rattle.one_history.proofs.Interleavings.{goes_on_itself, goes_on_by}
 use Rattle.stripe_locks.specs.declared.view.SeatView.{SeatView}
-use Rattle.stripe_locks.specs.Rule.{bit, Stands, IsSeated, Sits, Kept}
+use Rattle.stripe_locks.specs.Rule.{bit, Stands, IsSeated, IsListed, Sits, Kept}
 use Rattle.stripe_locks.specs.Plays.{IsSameOne}
+use Rattle.stripe_locks.proofs.Listing.{still_listed}
 
 abbrev pub St : Type 0
 St = State (Option Stripe) SeatView
@@ -32,7 +36,7 @@ Homes = List (maybe.Option (Option Stripe))
 
 -- what the seat of the pass j knows after its step
 abbrev pub view_of : ℕ → Book → SeatView
-view_of j b = record { pass = record_of j b; order = b.interleaving }
+view_of j b = record { pass = record_of j b; order = b.interleaving; places = j ∷ [] }
 
 -- what holds of each seat, after one has another view
 pub seats_set : (P : ℕ → SeatView → Type 0) (vs : List SeatView) (id : ℕ) (w : SeatView) → P id w → ((l : ℕ) (u : SeatView) → l ≢ id → get_elem? vs l ≡ some u → P l u) → (l : ℕ) (u : SeatView) → get_elem? (set vs id w) l ≡ some u → P l u
@@ -53,6 +57,7 @@ module _ (o : Opening) (s : St) (k : Kept o s) (id : ℕ) (v : SeatView) (at : g
     number_is = x.number_is;
     within = (let lt : x.place < get_or s.words 24 0 = x.within in omega arith);
     seat_is = x.seat_is;
+    lists = x.lists;
     view_is = moves.others x.place (λ e. ne (sym x.seat_is ∙ (ap k.seats e ∙ seated.seat_is))) ∙ x.view_is;
     goes_on = goes_on_by u.order k.book.interleaving b'.interleaving (pass_step seated.place made) moves.order x.goes_on;
     made = x.made;
@@ -63,6 +68,13 @@ module _ (o : Opening) (s : St) (k : Kept o s) (id : ℕ) (v : SeatView) (at : g
     other_front = front_trans _ _ _ x.other_front grows;
     borne_out = x.borne_out;
     goes_on = goes_on_by u.order k.book.interleaving b'.interleaving (pass_step seated.place made) moves.order x.goes_on;
+    listed = All-weaker (IsListed k.seats k.book (get_or s.words 24 0) l u.order) (IsListed k.seats b' joined l u.order)
+        (λ j y. record {
+          within = (let lt : j < get_or s.words 24 0 = y.within in omega arith);
+          seat_is = y.seat_is;
+          made = y.made ∙ ap (λ (r : Record). r.steps) (sym (moves.others j (λ e. ne (sym y.seat_is ∙ (ap k.seats e ∙ seated.seat_is)))));
+        })
+        u.places x.listed;
   }
 
   pub turned : (made : StepMade) (b' : Book) (slots' : List Slot) (words' : List ℕ) (homes' : Homes) → BookMoves seated.place made k.book b' → b'.effects.keeper ≡ k.book.effects.keeper → IsFront k.book.history b'.history → IsSameOne v.pass (record_of seated.place b')
@@ -88,11 +100,13 @@ module _ (o : Opening) (s : St) (k : Kept o s) (id : ℕ) (v : SeatView) (at : g
           number_is = same.passes ∙ seated.number_is;
           within = (let lt : seated.place < get_or s.words 24 0 = seated.within in omega arith);
           seat_is = seated.seat_is;
+          lists = refl;
           view_is = refl;
           goes_on = goes_on_itself b'.interleaving;
           made = sym (kept.one.steps seated.place);
         }))
         (λ l u ne there. other_sits made b' (get_or words' 24 0) moves grows three l u u.pass.enrolled ne (k.each_seat l u there));
+    each_pass = λ j lt. still_listed k.seats s.views id v (view_of seated.place b') j at (subst (λ ps. Contains ps j) seated.lists) (k.each_pass j (omega arith));
   }
 
   -- a step that changes no word

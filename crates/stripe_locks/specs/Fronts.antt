@@ -1,5 +1,5 @@
 -- What passes have seen of the one history, and that their records are of one.
-use Rattle.std.specs.Prelude.{◌≡◌, ℕ, ◌<◌, ◌⊎◌, List, [], length, Option, nat_lt, if◌then◌else◌}
+use Rattle.std.specs.Prelude.{◌≡◌, ℕ, ◌<◌, ◌⊎◌, List, [], ◌++◌, length, Option, nat_lt, if◌then◌else◌}
 use Rattle.std.specs.List.{All}
 use Rattle.std.specs.FinMap as finite
 use Rattle.atomic_table.specs.Table.{Step}
@@ -24,8 +24,8 @@ AreComparable xs ys = IsFront xs ys ⊎ IsFront ys xs
 abbrev pub later_of : List PassStep → List PassStep → List PassStep
 later_of xs ys = if nat_lt (length xs) (length ys) then ys else xs
 
--- The view of a seat that is no pass's any more. It keeps what two passes have seen, and the one order with the steps
--- of both. If the other is the keeper's, it keeps also the steps of the one, with what the keeper published and whether
+-- The view of a seat that is no pass's any more. It keeps what two passes have seen, lists both, and keeps the one order
+-- with the steps of both. If the other is the keeper's, it keeps also the steps of the one, with what the keeper published and whether
 -- it failed.
 abbrev pub both_fronts : SeatView → SeatView → SeatView
 both_fronts v w = record {
@@ -37,6 +37,7 @@ both_fronts v w = record {
     failed = w.pass.failed;
   };
   order = later_of v.order w.order;
+  places = v.places ++ w.places;
 }
 
 abbrev pub no_front : SeatView

@@ -1,5 +1,5 @@
 -- That the one order of steps grows at its end alone.
-use Rattle.std.specs.Prelude.{◌≡◌, ℕ, ◌+◌, ◌-◌, ◌<◌, List, ◌++◌, map, Option, true, slice_index, slice_set}
+use Rattle.std.specs.Prelude.{◌≡◌, ℕ, ◌-◌, List, ◌++◌, map, Option, true}
 use mathlib.Core.Option.{some}
 use lib.ListN.{get_elem?}
 use Rattle.atomic_table.specs.Table.{State, Act, stepped}
@@ -12,31 +12,18 @@ use Rattle.stripe_locks.specs.declared.view.SeatView.{SeatView}
 use Rattle.stripe_locks.specs.Rule.{Kept}
 use Rattle.stripe_locks.specs.Plays.{Sat}
 
--- the seat of the pass at the place j
-pub record HasSeat (views : List SeatView) (j : ℕ) : Type 0 where
-  pub id : ℕ
-  pub view : SeatView
-  pub at : get_elem? views id ≡ some view
-  pub is_pass : view.pass.enrolled ≡ true
-  pub number_is : view.pass.passes ≡ j + 1
-
--- each pass that joined has its seat: no two were compared, which spends both
-abbrev pub AllSit : State (Option Stripe) SeatView → Type 0
-AllSit s = (j : ℕ) → j < slice_index s.words 24 → HasSeat s.views j
-
 -- Whatever a pass records by one atomic step that keeps the rule, it stands last in the one order, and finds what the
--- words hold then.
+-- words hold then. So it is whichever word the step is made on, the count of passes too.
 abbrev pub StandLast : Type 0
-StandLast = (o : Opening) (s : State (Option Stripe) SeatView) (before : Kept o s) → AllSit s
+StandLast = (o : Opening) (s : State (Option Stripe) SeatView) (before : Kept o s)
     → (id : ℕ) (me : Sat) → get_elem? s.views id ≡ some me.0 → me.0.pass.enrolled ≡ true
     → (i x : ℕ) (w : SeatView) (a : Act (Option Stripe)) (after : Kept o (stepped s i x id me.1 w a))
-    → w.pass.enrolled ≡ true → w.pass.passes ≡ me.0.pass.passes
-    → slice_index (slice_set s.words i x) 24 ≡ slice_index s.words 24
+    → w.pass.enrolled ≡ true
     → (new : List StepMade) → w.pass.steps ≡ me.0.pass.steps ++ new
     → (after.book.interleaving ≡ before.book.interleaving ++ map (pass_step (me.0.pass.passes - 1)) new)
     × AreFound (words_of before.book) (map (pass_step (me.0.pass.passes - 1)) new)
 
--- The order isn't chosen anew: what the seats of all passes know determines it.
+-- The order isn't chosen anew: what the seats know determines it.
 abbrev pub IsDetermined : Type 0
-IsDetermined = (o : Opening) (s : State (Option Stripe) SeatView) (one other : Kept o s) → AllSit s
+IsDetermined = (o : Opening) (s : State (Option Stripe) SeatView) (one other : Kept o s)
     → other.book.interleaving ≡ one.book.interleaving

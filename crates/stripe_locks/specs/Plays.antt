@@ -15,9 +15,13 @@ use Rattle.stripe_locks.specs.declared.view.SeatView.{SeatView}
 abbrev pub Sat : Type 0
 Sat = Me (Option Stripe) SeatView
 
--- what a seat knows that has made no step
+-- what a seat knows that is no pass's, before any step
 abbrev pub stepless : Record → SeatView
-stepless v = record { pass = v; order = [] }
+stepless v = record { pass = v; order = []; places = [] }
+
+-- what the seat of the pass at the place k knows, before any step of it
+abbrev pub seated_at : ℕ → Record → SeatView
+seated_at k v = record { pass = v; order = []; places = k ∷ [] }
 
 -- the slots that are out with a pass
 abbrev pub carried : Option Holding → List (ℕ × Option Stripe)
@@ -39,7 +43,7 @@ abbrev pub sat : Step (Option Stripe) → Sat → ℕ → Sat → Type 0
 sat st m r m' = (m'.0 ≡ stepless (meeting m.0.pass r)) × (r ≤ 4096)
 
 abbrev pub enrolled : Step (Option Stripe) → Sat → ℕ → Sat → Type 0
-enrolled st m r m' = (m'.1 ≡ m.1) × (r ≡ st.first → m'.0 ≡ stepless (joining m.0.pass.opening r))
+enrolled st m r m' = (m'.1 ≡ m.1) × (r ≡ st.first → m'.0 ≡ seated_at r (joining m.0.pass.opening r))
     × (r ≢ st.first → (m'.0 ≡ stepless (meeting m.0.pass r)) × (m.0.pass.passes ≤ r) × (r ≤ 4096))
 
 -- TAKE of a free stripe, whose content the seat then has

@@ -1,9 +1,9 @@
 -- The rule of the shared words: between any two steps of any threads there is one history, which the words and the
 -- slots match. The words are the ticket count, the durable count, the failure word, the count of passes, and then one
 -- for each stripe. Each has a cache line of its own, of eight words.
-use Rattle.std.specs.Prelude.{◌≡◌, ℕ, ◌+◌, ◌*◌, ◌<◌, ◌≤◌, max, List, length, map, Option, Some, Bool, true, false}
+use Rattle.std.specs.Prelude.{◌≡◌, ℕ, ◌+◌, ◌*◌, ◌<◌, ◌≤◌, max, List, [], ◌∷◌, length, map, Option, Some, Bool, true, false}
 use Rattle.std.specs.Prelude.{slice_index}
-use Rattle.std.specs.List.{All}
+use Rattle.std.specs.List.{All, Contains}
 use mathlib.Core.Option.{some}
 use mathlib.Core.Option as maybe
 use lib.ListN.{get_elem?}
@@ -16,6 +16,7 @@ use Rattle.ticket_order.specs.declared.record.StepMade.{StepMade}
 use Rattle.ticket_order.specs.declared.record.StepMade.TheVariants.{Saw, FoundAlive}
 use Rattle.ticket_order.specs.Records.{keeper_at_start, enrolling}
 use Rattle.one_history.specs.declared.book.Book.{Book}
+use Rattle.one_history.specs.declared.book.PassStep.{PassStep}
 use Rattle.one_history.specs.declared.slot.Slot.{Slot}
 use Rattle.one_history.specs.declared.slot.Slot.TheVariants.{Home, HeldBy}
 use Rattle.one_history.specs.Interleaving.{GoesOn, steps_by}
@@ -35,13 +36,14 @@ Stands words homes i (Home content) =
     (slice_index words (i * 8 + 32) ≡ 0) × (get_elem? homes i ≡ some (some (Some content)))
 Stands words homes i (HeldBy j) = slice_index words (i * 8 + 32) ≡ j + 1
 
--- The seat is that of the pass at this place of the book, whose record it knows. The one order goes on from the order
--- that it knows, in which all steps of the pass stand.
+-- The seat is that of the pass at this place of the book, which it lists alone, and whose record it knows. The one order
+-- goes on from the order that it knows, in which all steps of the pass stand.
 pub record IsSeated (seats : ℕ → ℕ) (b : Book) (joined : ℕ) (id : ℕ) (v : SeatView) : Type 0 where
   pub place : ℕ
   pub number_is : v.pass.passes ≡ place + 1
   pub within : place < joined
   pub seat_is : seats place ≡ id
+  pub lists : v.places ≡ place ∷ []
   pub view_is : record_of place b ≡ v.pass
   pub goes_on : GoesOn v.order b.interleaving
   pub made : steps_by place v.order ≡ v.pass.steps
@@ -56,22 +58,36 @@ BearsOut published failed (Saw d) = d ≤ published
 BearsOut published failed (FoundAlive is_alive) = is_alive ≡ false → failed ≡ true
 BearsOut published failed step = Unit {0}
 
+-- The pass at the place j has joined, and this is the one seat that lists it. All its steps stand in the order that the
+-- seat knows.
+pub record IsListed (seats : ℕ → ℕ) (b : Book) (joined : ℕ) (id : ℕ) (order : List PassStep) (j : ℕ) : Type 0 where
+  pub within : j < joined
+  pub seat_is : seats j ≡ id
+  pub made : steps_by j order ≡ (record_of j b).steps
+
 -- The seat is no pass's. What it knows of the history are two fronts; its steps are borne out by what it knows of the
--- keeper's effects. The one order goes on from the order that it knows.
-pub record IsUnseated (b : Book) (joined : ℕ) (v : SeatView) : Type 0 where
+-- keeper's effects. The one order goes on from the order that it knows. If two passes were compared, it lists both.
+pub record IsUnseated (seats : ℕ → ℕ) (b : Book) (joined : ℕ) (id : ℕ) (v : SeatView) : Type 0 where
   pub few : v.pass.passes ≤ joined
   pub front : IsFront v.pass.seen b.history
   pub other_front : IsFront (commands_of v.pass.taken) b.history
   pub borne_out : All (BearsOut v.pass.published v.pass.failed) v.pass.steps
   pub goes_on : GoesOn v.order b.interleaving
+  pub listed : All (IsListed seats b joined id v.order) v.places
 
 abbrev pub Sits : (ℕ → ℕ) → Book → ℕ → ℕ → SeatView → Bool → Type 0
 Sits seats b joined id v true = IsSeated seats b joined id v
-Sits seats b joined id v false = IsUnseated b joined v
+Sits seats b joined id v false = IsUnseated seats b joined id v
 
--- `joined` passes have joined, at most 4,096. The keeper's is the first; until it joins, its record stands in the book
--- as it will begin. A step changes the view of its own pass alone. So the one order stays as it was up to the last step
--- of each other pass, and grows at its end.
+-- a seat lists the pass at the place j
+pub record HasSeat (seats : ℕ → ℕ) (views : List SeatView) (j : ℕ) : Type 0 where
+  pub view : SeatView
+  pub at : get_elem? views (seats j) ≡ some view
+  pub lists : Contains view.places j
+
+-- `joined` passes have joined, at most 4,096, and each is listed by one seat. The keeper's is the first; until it joins,
+-- its record stands in the book as it will begin. A step changes the view of its own seat alone. So the one order stays
+-- as it was up to the last step of each other pass, and grows at its end.
 pub record Kept (o : Opening) (s : State (Option Stripe) SeatView) : Type 0 where
   pub book : Book
   pub slots : List Slot
@@ -87,3 +103,4 @@ pub record Kept (o : Opening) (s : State (Option Stripe) SeatView) : Type 0 wher
   pub each_stripe : (i : ℕ) → i < length s.homes → Stands s.words s.homes i (slot_of i slots)
   pub each_seat : (id : ℕ) (v : SeatView) → get_elem? s.views id ≡ some v
       → Sits seats book (slice_index s.words 24) id v v.pass.enrolled
+  pub each_pass : (j : ℕ) → j < slice_index s.words 24 → HasSeat seats s.views j
