@@ -240,7 +240,8 @@ public final class StallTest {
                 }
                 thread.interrupt();
                 // The first was sent; the second waits for the first's row.
-                assertEquals(key.equals("a") ? OutcomeOpenException.class : NotMadeException.class, told.join().getClass());
+                assertEquals(key.equals("a") ? OutcomeOpenException.class : NotMadeException.class,
+                    told.get(GRACE_SECONDS, TimeUnit.SECONDS).getClass());
             }
         }
     }
