@@ -4,11 +4,13 @@ import java.util.concurrent.atomic.AtomicInteger;
 import org.junit.runner.Description;
 import org.junit.runner.JUnitCore;
 import org.junit.runner.Result;
+import org.junit.runner.notification.Failure;
 import org.junit.runner.notification.RunListener;
 
 /**
  * Runs the tests of the client, or those of the classes that are named. It prints each test as it begins. A test that
- * doesn't end is named, with what each thread does, and ends the program. The last line is `N passed, M failed`.
+ * doesn't end is named, with what each thread does, and ends the program; so does the first that fails, with
+ * {@code -Dfirst=true}. The last line is `N passed, M failed`.
  */
 public final class Tests {
     private static final Class<?>[] ALL = {PageTest.class, MapTest.class, RowTest.class, OutcomeTest.class,
@@ -19,7 +21,7 @@ public final class Tests {
 
     /** Prints what begins, and counts what has ended. */
     private static final class Told extends RunListener {
-        private final Watchdog watchdog = new Watchdog(this::stalled);
+        private final Watchdog watchdog = new Watchdog(this::ends);
         private final AtomicInteger ended = new AtomicInteger();
 
         @Override
@@ -34,7 +36,14 @@ public final class Tests {
             ended.incrementAndGet();
         }
 
-        private void stalled(String what) {
+        @Override
+        public void testFailure(Failure failure) {
+            if (Boolean.getBoolean("first")) {
+                ends(failure.getTestHeader() + ": " + failure.getTrace());
+            }
+        }
+
+        private void ends(String what) {
             System.out.printf("FAILED %s%n%d passed, 1 failed%n", what, ended.get());
             System.exit(1);
         }
