@@ -151,7 +151,7 @@ public interface AsyncDchmMap<V> {
     CompletableFuture<Void> putAll(Map<? extends String, ? extends V> entries);
 
     /**
-     * How many keys have a value. The server asks each stripe of its map.
+     * How many keys have a value, which the server knows without going over its map.
      *
      * @return the number
      */
