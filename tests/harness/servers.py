@@ -2,6 +2,7 @@
 import concurrent.futures
 import contextlib
 import errno
+import faulthandler
 import os
 import random
 import resource
@@ -97,7 +98,8 @@ def free_port():
 
 
 def end_by_signal():
-    """SIGTERM and SIGHUP end the script as an error does: what it started is stopped."""
+    """SIGTERM and SIGHUP end the script as an error does: what it started is stopped. SIGQUIT shows where it is."""
+    faulthandler.register(signal.SIGQUIT)
     for number in (signal.SIGTERM, signal.SIGHUP):
         if signal.getsignal(number) != signal.SIG_IGN:
             signal.signal(number, lambda got, _: sys.exit(128 + got))

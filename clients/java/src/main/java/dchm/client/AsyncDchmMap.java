@@ -14,7 +14,9 @@ import java.util.concurrent.CompletableFuture;
  * if the outcome of a change is open. A read isn't sent again.
  *
  * <p>Callbacks run on the common pool, or on the client's executor. They may wait for calls. Those of different calls may
- * run at a time, in any order. A future that is cancelled takes back its call if nothing of it was sent.
+ * run at a time, in any order. One that is added when its call has ended already runs on the thread that adds it, as with
+ * any CompletableFuture; {@code thenApplyAsync} and the like never do. A future that is cancelled takes back its call if
+ * nothing of it was sent.
  *
  * @param <V> the class of the values: Long, String, or Object for both
  */
@@ -149,7 +151,7 @@ public interface AsyncDchmMap<V> {
     CompletableFuture<Void> putAll(Map<? extends String, ? extends V> entries);
 
     /**
-     * How many keys have a value. The server asks each stripe of its map.
+     * How many keys have a value, which the server knows without going over its map.
      *
      * @return the number
      */

@@ -125,7 +125,8 @@ public interface DchmClient extends AutoCloseable {
         }
 
         /**
-         * How long a call of the whole map may take; 5 minutes if left out.
+         * How long a call may take for which the server goes over its whole map; 5 minutes if left out. It has a
+         * connection of its own.
          *
          * @param most the time, above 0
          * @return this builder

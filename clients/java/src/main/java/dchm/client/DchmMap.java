@@ -21,8 +21,9 @@ import java.util.function.BiFunction;
  * <li>{@link OutcomeOpenException} if a change was sent and got no reply. Its outcome is open.
  * </ul>
  *
- * <p>There is no iteration. {@code keySet}, {@code values}, {@code entrySet}, {@code forEach}, {@code replaceAll} and
- * {@code clear} throw UnsupportedOperationException; {@code equals} and {@code hashCode} are those of Object.
+ * <p>There is no iteration. {@code keySet}, {@code values}, {@code entrySet}, {@code forEach}, {@code replaceAll},
+ * {@code clear} and {@code hashCode} throw UnsupportedOperationException. {@code equals} counts, and gets each entry of the
+ * other map; it throws the same if that is a map of another client.
  *
  * <p>For the tests of a program this is a map without a server:
  * {@code class Fake<V> extends ConcurrentHashMap<String, V> implements DchmMap<V>}.
@@ -202,7 +203,7 @@ public interface DchmMap<V> extends ConcurrentMap<String, V> {
     // ---- the whole map
 
     /**
-     * How many keys have a value. The server asks each stripe of its map, and a connection of its own makes the call.
+     * How many keys have a value, which the server knows without going over its map.
      *
      * @return the number
      */

@@ -143,7 +143,7 @@ final class ServerAsyncMap<V> implements AsyncDchmMap<V> {
 
     @Override
     public CompletableFuture<Long> mappingCount() {
-        return client.sendWhole(Wire.count(), reply -> (Long) reply.value());
+        return client.sendCount(reply -> (Long) reply.value());
     }
 
     @Override

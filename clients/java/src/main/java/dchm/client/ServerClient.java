@@ -161,7 +161,24 @@ final class ServerClient implements DchmClient {
         return answer;
     }
 
-    // ---- calls of the whole map, over a connection of their own, since what is sent behind one would wait for it
+    // ---- counts, of which the server knows the reply: each counts the changes that were sent before it over its connection
+
+    Wire.Reply askCount() {
+        refuseIfClosed();
+        long begin = System.nanoTime();
+        return asked(lanes[0], Call.awaited(Wire.count(), begin + timeoutNanos), begin);
+    }
+
+    /** A future that has what the function makes of the reply to a count. */
+    <T> CompletableFuture<T> sendCount(Function<Wire.Reply, T> result) {
+        refuseIfClosed();
+        long begin = System.nanoTime();
+        Answer<T> answer = new Answer<>(result, completions, listening, begin);
+        lanes[0].send(answer.of(Call.ahead(Wire.count(), begin + timeoutNanos, answer), lanes[0]));
+        return answer;
+    }
+
+    // ---- calls that go over the whole map, over a connection of their own, since what is sent behind one would wait for it
 
     /** Makes a call of the whole map. */
     Wire.Reply askWhole(byte[] frame) {

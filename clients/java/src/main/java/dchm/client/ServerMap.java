@@ -150,7 +150,7 @@ final class ServerMap<V> implements DchmMap<V> {
 
     @Override
     public long mappingCount() {
-        return (Long) client.askWhole(Wire.count()).value();
+        return (Long) client.askCount().value();
     }
 
     @Override
@@ -203,6 +203,31 @@ final class ServerMap<V> implements DchmMap<V> {
 
     @Override
     public void clear() {
+        throw noIteration();
+    }
+
+    // ---- what is asked of any object
+
+    /** Whether the other map has the same mappings: it is gone through, since this one can't be. */
+    @Override
+    public boolean equals(Object other) {
+        if (other instanceof ServerMap<?> server && server.client == client) {
+            return true;
+        }
+        if (!(other instanceof Map<?, ?> map)) {
+            return false;
+        }
+        Set<? extends Map.Entry<?, ?>> entries = map.entrySet();
+        return mappingCount() == entries.size() && entries.stream().allMatch(this::hasEntry);
+    }
+
+    private boolean hasEntry(Map.Entry<?, ?> entry) {
+        byte[] bytes = entry.getKey() == null || entry.getValue() == null ? null : Wire.keyOrNull(entry.getKey());
+        return bytes != null && entry.getValue().equals(client.ask(bytes, Wire.request(Wire.GET, bytes)).value());
+    }
+
+    @Override
+    public int hashCode() {
         throw noIteration();
     }
 

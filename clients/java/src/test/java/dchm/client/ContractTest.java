@@ -7,6 +7,7 @@ import static org.junit.Assert.assertThrows;
 import static org.junit.Assert.assertTrue;
 
 import java.util.ArrayList;
+import java.util.HashMap;
 import java.util.LinkedHashMap;
 import java.util.List;
 import java.util.Map;
@@ -115,6 +116,29 @@ public final class ContractTest {
             assertThrows(IllegalArgumentException.class, () -> map.putAll(entries));
             assertThrows(IllegalArgumentException.class, () -> map.async().putAll(entries));
             assertEquals("nothing was sent", 1, map.size());
+        }
+    }
+
+    @Test
+    public void a_map_equals_others_with_its_entries() throws Exception {
+        try (Server server = Server.real(); DchmClient client = server.client(); DchmClient other = server.client()) {
+            DchmMap<Object> map = client.map();
+            assertEquals(map, Map.of());
+            map.putAll(Map.of("a", 1L, "b", "x"));
+            Map<String, Object> same = new HashMap<>(Map.of("a", 1L, "b", "x"));
+            assertTrue(map.equals(same) && same.equals(map));
+            assertTrue(map.equals(client.longs()));
+            Map<String, Object> withNull = new HashMap<>(same);
+            withNull.remove("b");
+            withNull.put("c", null);
+            for (Map<?, ?> wrong : List.of(Map.of("a", 1L), Map.of("a", 1L, "b", "y"), Map.of("a", 1, "b", "x"), withNull,
+                Map.of("a", 1L, 5, "x"), Map.of("a", 1L, "b", "x", "c", 2L), Map.of("a", 1L, "c", "x"))) {
+                assertFalse(wrong.toString(), map.equals(wrong));
+                assertFalse(wrong.toString(), wrong.equals(map));
+            }
+            assertFalse(map.equals("a map") || map.equals(null));
+            assertThrows(UnsupportedOperationException.class, () -> map.equals(other.map()));
+            assertThrows(UnsupportedOperationException.class, map::hashCode);
         }
     }
 

@@ -10,12 +10,15 @@ import java.util.ArrayList;
 import java.util.List;
 import java.util.concurrent.CompletableFuture;
 import java.util.concurrent.CountDownLatch;
+import java.util.concurrent.TimeUnit;
 import java.util.concurrent.atomic.AtomicBoolean;
 import org.junit.Test;
 
 /** Calls end by their deadline, whatever a server does, and asynchronous ones wait for nothing. */
 public final class DeadlineTest {
     private static final int THREADS = 16;
+    /** More than a slow machine needs, and less than the watchdog waits. */
+    private static final int GRACE_SECONDS = 60;
 
     /** Answers the first connection's probe; later connections get nothing. */
     private static Peer.Served onlyFirst(AtomicBoolean isFirst, CountDownLatch mayEnd) {
@@ -107,21 +110,31 @@ public final class DeadlineTest {
         }
     }
 
+    /** A callback that blocks until it may end. It says that it has begun, and whether it was told to end. */
+    private static CompletableFuture<Boolean> blocked(CompletableFuture<Long> call, CountDownLatch hasBegun, CountDownLatch mayEnd) {
+        return call.thenApply(old -> {
+            hasBegun.countDown();
+            try {
+                return mayEnd.await(GRACE_SECONDS, TimeUnit.SECONDS);
+            } catch (InterruptedException error) {
+                throw new IllegalStateException(error);
+            }
+        });
+    }
+
     @Test
     public void a_callback_that_blocks_holds_nothing_up() throws Exception {
+        CountDownLatch hasBegun = new CountDownLatch(1);
         CountDownLatch mayEnd = new CountDownLatch(1);
-        try (Server server = Server.real(); DchmClient client = server.client()) {
-            CompletableFuture<Void> blocked = client.longs().async().put("a", 1L).thenAccept(old -> {
-                try {
-                    mayEnd.await();
-                } catch (InterruptedException error) {
-                    throw new IllegalStateException(error);
-                }
-            });
+        try (Server server = Server.standIn("put a held"); DchmClient other = server.client(); DchmClient client = server.client()) {
+            // A callback that is added once the call has ended would run, and block, on this thread.
+            CompletableFuture<Boolean> blocked = blocked(client.longs().async().put("a", 1L), hasBegun, mayEnd);
+            other.longs().get("release");
+            hasBegun.await();
             assertEquals(1L, (long) client.longs().get("a"));
             assertEquals(1L, (long) client.longs().async().get("a").join());
             mayEnd.countDown();
-            blocked.join();
+            assertTrue("it was held up until the callback gave up", blocked.join());
         }
     }
 }

@@ -179,12 +179,16 @@ public final class OutcomeTest {
 
     @Test
     public void a_call_of_the_whole_map_ends_with_its_client() throws Exception {
-        try (Server server = Server.standIn("count - stall"); DchmClient client = server.client()) {
+        try (Server server = Server.standIn("count - stall", "search - stall"); DchmClient client = server.client()) {
             CompletableFuture<Long> count = CompletableFuture.supplyAsync(client.longs()::mappingCount);
-            assertTrue("the request never comes", Server.waitUntil(() -> server.received(Wire.count()) > 0));
+            CompletableFuture<String> search = CompletableFuture.supplyAsync(() -> client.longs().search(1L));
+            assertTrue("the requests never come", Server.waitUntil(() -> server.received(Wire.count()) > 0
+                && server.received(Wire.search(Long.MAX_VALUE, 1L)) > 0));
             client.close();
-            Throwable told = assertThrows(CompletionException.class, count::join).getCause();
-            assertEquals(NotMadeException.class, told.getClass());
+            for (CompletableFuture<?> call : List.of(count, search)) {
+                Throwable told = assertThrows(CompletionException.class, call::join).getCause();
+                assertEquals(NotMadeException.class, told.getClass());
+            }
         }
     }
 
@@ -283,11 +287,16 @@ public final class OutcomeTest {
     }
 
     @Test
-    public void a_call_of_the_whole_map_needs_a_connection_of_its_own() throws Exception {
+    public void a_call_of_the_whole_map_needs_a_connection_of_its_own_and_a_count_does_not() throws Exception {
         try (Server server = Server.real("--connections", "1"); DchmClient client = server.client()) {
             client.longs().put("a", 1L);
-            assertThrows(NotMadeException.class, () -> client.longs().size());
+            assertThrows(NotMadeException.class, () -> client.longs().search(1L));
             assertEquals(1L, (long) client.longs().get("a"));
+            assertEquals(1, client.longs().size());
+            assertFalse(client.longs().isEmpty());
+            CompletableFuture<Long> put = client.longs().async().put("b", 1L);
+            assertEquals("what was sent before is counted", 2L, (long) client.longs().async().mappingCount().join());
+            assertNull(put.join());
         }
     }
 

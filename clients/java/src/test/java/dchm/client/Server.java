@@ -25,6 +25,7 @@ final class Server implements AutoCloseable {
     static final int TURN_MILLIS = 50;
     private static final String PROGRAM = System.getProperty("dchm");
     private static final String STAND_IN = System.getProperty("standin");
+    private static final String PYTHON = System.getProperty("python", "python3");
     /** Ports below those that the system gives to clients of its own choice. */
     private static final int FIRST_PORT = 12_000, END_PORT = 32_000;
     private static final int MOST_PORTS = 20;
@@ -79,7 +80,7 @@ final class Server implements AutoCloseable {
     }
 
     private static Server standIn(Path room, List<String> options, String... rules) throws IOException {
-        List<String> words = new ArrayList<>(List.of("python3", STAND_IN, "--journal", room.resolve("journal").toString()));
+        List<String> words = new ArrayList<>(List.of(PYTHON, STAND_IN, "--journal", room.resolve("journal").toString()));
         words.addAll(options);
         words.addAll(List.of(rules));
         Process process = started(words, room);

@@ -2,6 +2,7 @@ package dchm.client;
 
 import static org.junit.Assert.assertEquals;
 import static org.junit.Assert.assertFalse;
+import static org.junit.Assert.assertNull;
 import static org.junit.Assert.assertThrows;
 import static org.junit.Assert.assertTrue;
 
@@ -13,6 +14,7 @@ import java.nio.file.Path;
 import java.time.Duration;
 import java.util.ArrayList;
 import java.util.List;
+import java.util.OptionalLong;
 import java.util.SplittableRandom;
 import java.util.concurrent.CompletableFuture;
 import java.util.concurrent.CompletionException;
@@ -53,6 +55,7 @@ public final class StallTest {
                     }));
                 }
                 inTime("a count", () -> assertThrows(NotMadeException.class, () -> client.longs().size()));
+                inTime("a search", () -> assertThrows(NotMadeException.class, () -> client.longs().search(1L)));
                 inTime("closing", client::close);
             } finally {
                 server.signal("CONT");
@@ -111,22 +114,22 @@ public final class StallTest {
 
     @Test
     public void a_call_of_the_whole_map_has_its_own_deadline() throws Exception {
-        try (Server server = Server.standIn("count - held"); DchmClient other = server.client();
+        try (Server server = Server.standIn("search - held"); DchmClient other = server.client();
              DchmClient client = server.options().timeout(TIMEOUT).connect()) {
-            CompletableFuture<Long> blocking = CompletableFuture.supplyAsync(client.longs()::mappingCount);
-            assertTrue("the request never comes", Server.waitUntil(() -> server.received(Wire.count()) == 1));
+            CompletableFuture<String> blocking = CompletableFuture.supplyAsync(() -> client.longs().search(1L));
+            assertTrue("the request never comes", Server.waitUntil(() -> server.received(Wire.search(Long.MAX_VALUE, 1L)) == 1));
             Thread.sleep(3 * TIMEOUT.toMillis());
             assertFalse(blocking.isDone());
             other.longs().get("release");
-            assertEquals(0L, (long) blocking.join());
+            assertNull(blocking.join());
         }
-        try (Server server = Server.standIn("count - held"); DchmClient other = server.client();
+        try (Server server = Server.standIn("reduce - held"); DchmClient other = server.client();
              DchmClient client = server.options().timeout(TIMEOUT).connect()) {
-            CompletableFuture<Long> ahead = client.longs().async().mappingCount();
+            CompletableFuture<OptionalLong> ahead = client.longs().async().reduceToLong(Fn.SUM);
             Thread.sleep(3 * TIMEOUT.toMillis());
             assertFalse(ahead.isDone());
             other.longs().get("release");
-            assertEquals(0L, (long) ahead.join());
+            assertEquals(OptionalLong.empty(), ahead.join());
         }
     }
 
@@ -240,7 +243,8 @@ public final class StallTest {
                 }
                 thread.interrupt();
                 // The first was sent; the second waits for the first's row.
-                assertEquals(key.equals("a") ? OutcomeOpenException.class : NotMadeException.class, told.join().getClass());
+                assertEquals(key.equals("a") ? OutcomeOpenException.class : NotMadeException.class,
+                    told.get(GRACE_SECONDS, TimeUnit.SECONDS).getClass());
             }
         }
     }

@@ -15,7 +15,7 @@ import org.junit.Test;
 
 /** What a server gets of threads that send at a time, while its socket is full and then is not. */
 public final class StreamTest {
-    private static final int FILLING = 2500, THREADS = 6, EACH = 20_000, ROUNDS = 4;
+    private static final int FILLING = 2500, THREADS = 6, EACH = 10_000, ROUNDS = 2;
     private static final int MERGE_BYTES = 10, ROW_CALLS = 64;
 
     /** Takes requests while it may, and answers the first alone. */
