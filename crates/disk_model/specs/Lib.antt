@@ -7,3 +7,4 @@ pub mod Memory
 pub mod Moments
 pub mod Gates
 pub mod Calls
+pub mod FileCalls

@@ -1,7 +1,7 @@
 //! The four files of a directory as the system has them, which a disk shares with those who watch it.
-ghost use Rattle.std.specs.Prelude.{◌≡◌, ℕ, ◌<◌, ◌≤◌, ◌∷◌, length, take, slice_index_or, Option, IsTrue, IfOk, OnOk, OnErr, IfSome};
+ghost use Rattle.std.specs.Prelude.{◌≡◌, ◌<◌, ◌≤◌, ◌∷◌, length, take, IsTrue, IfOk, OnOk, OnErr, IfSome};
 ghost use Rattle.disk_model.specs.Events.{failed, wrote, broke, synced_file, measured, gave};
-ghost use Rattle.disk_model.specs.declared.file_calls.OpenFile.{OpenFile};
+ghost use Rattle.disk_model.specs.FileCalls.{AreFiles};
 
 use crate::file_calls::{CallLog, FileCalls, OpenFile, Removal};
 use std::fs::File;
@@ -104,8 +104,7 @@ impl Device {
     /// How many bytes the file has; 0 if it is absent.
     pub(crate) fn len<S: FileCalls>(&self, log: &mut CallLog<S>, file: usize) -> io::Result<usize>
         requires file { file < 4 }
-        requires files { (n : ℕ) → (other : Option OpenFile) → n < 4
-            → IsTrue (S.is_file n (slice_index_or self.now.files n other)) }
+        requires files { AreFiles S.is_file self.now.files }
         ensures ok { IfOk result (λ n. log.new.past.events ≡ measured file n ∷ log.old.past.events) }
         ensures err { OnErr result (log.new.past.events ≡ failed ∷ log.old.past.events) }
     {
@@ -128,8 +127,7 @@ impl Device {
         buf: &mut [u8],
     ) -> io::Result<usize>
         requires file { file < 4 }
-        requires files { (n : ℕ) → (other : Option OpenFile) → n < 4
-            → IsTrue (S.is_file n (slice_index_or self.now.files n other)) }
+        requires files { AreFiles S.is_file self.now.files }
         ensures within { IfOk result (λ n. n ≤ length buf.old) }
         ensures ok { IfOk result (λ n. log.new.past.events
             ≡ gave file at (length buf.old) (take n buf.new) ∷ log.old.past.events) }
@@ -154,8 +152,7 @@ impl Device {
         bytes: &[u8],
     ) -> io::Result<()>
         requires file { file < 4 }
-        requires files { (n : ℕ) → (other : Option OpenFile) → n < 4
-            → IsTrue (S.is_file n (slice_index_or self.now.files n other)) }
+        requires files { AreFiles S.is_file self.now.files }
         ensures ok { OnOk result (log.new.past.events
             ≡ wrote file at bytes.now ∷ log.old.past.events) }
         ensures err { OnErr result (log.new.past.events
@@ -174,8 +171,7 @@ impl Device {
     /// Syncs the file's bytes and its length.
     pub(crate) fn sync<S: FileCalls>(&self, log: &mut CallLog<S>, file: usize) -> io::Result<()>
         requires file { file < 4 }
-        requires files { (n : ℕ) → (other : Option OpenFile) → n < 4
-            → IsTrue (S.is_file n (slice_index_or self.now.files n other)) }
+        requires files { AreFiles S.is_file self.now.files }
         ensures ok { OnOk result (log.new.past.events ≡ synced_file file ∷ log.old.past.events) }
         ensures err { OnErr result (log.new.past.events ≡ failed ∷ log.old.past.events) }
     {

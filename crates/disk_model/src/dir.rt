@@ -1,18 +1,18 @@
 //! Four files of a directory.
-ghost use Rattle.std.specs.Prelude.{◌≡◌, ◌<◌, ◌≤◌, ℕ, List, [], ◌∷◌, length, slice_index_or, Option, IsTrue, IfOk};
+ghost use Rattle.std.specs.Prelude.{◌≡◌, ◌≤◌, ℕ, List, [], ◌∷◌, length, IfOk};
 ghost use Rattle.disk_model.specs.Files.{Files, AreCoherent, AllCoherent, AllCoherent-prop, empty_files, empty_coherent};
 ghost use Rattle.disk_model.specs.Fills.{HasBytes};
 ghost use Rattle.disk_model.specs.Events.{states_from, failures_of, AllAgree};
-ghost use Rattle.disk_model.specs.declared.file_calls.OpenFile.{OpenFile};
+ghost use Rattle.disk_model.specs.FileCalls.{AreFiles};
 ghost use Rattle.disk_model.specs.declared.fill.Fill.{Fill};
 ghost use Rattle.disk_model.specs.declared.fill.Fill.TheVariants.{New};
 
 use crate::device::{Device, NAMES};
-use crate::file_calls::{CallLog, FileCalls, OpenFile};
+use crate::file_calls::{CallLog, FileCalls, OpenFile, open_locked, take_directory};
 use crate::first_error::FirstError;
 use crate::{DeviceError, Disk};
 use std::alloc::{AllocError, Global};
-use std::fs::{File, OpenOptions, TryLockError};
+use std::fs::{File, OpenOptions};
 use std::io;
 use std::os::unix::fs::OpenOptionsExt;
 use std::rt::Files as FileSystem;
@@ -20,9 +20,6 @@ use std::rt::Files as FileSystem;
 /// The rights of a file that is made: its owner may read and write it, and nobody else. The system takes
 /// from them what the process's umask says.
 const OWNER_ALONE: u32 = 0o600;
-
-/// Why a directory can't be opened whose lock another process or value has.
-const IN_USE: &str = "in use by another process";
 
 /// What the files hold as they are opened, which no code can read. A function over `S: Start` is
 /// proved for all that they may hold.
@@ -61,8 +58,7 @@ pub struct DirDisk<S: Start> {
     calls: CallLog<S>,
     first_error: FirstError,
     ghost coherent: { AllCoherent (states_from S.Start.files S.Start.left calls.past.events) } by { AllCoherent-prop (states_from S.Start.files S.Start.left calls.past.events) },
-    ghost files: { (n : ℕ) → (other : Option OpenFile) → n < 4
-        → IsTrue (S.FileCalls.is_file n (slice_index_or first_error.watched.value.device.files n other)) },
+    ghost files: { AreFiles S.FileCalls.is_file first_error.watched.value.device.files },
 }
 
 impl<S: Start> DirDisk<S> {
@@ -117,11 +113,12 @@ fn open_files<R: FileSystem<File = File>, S: Start>(
 ) -> io::Result<DirDisk<S>>
     ensures { IfOk result (λ disk. disk.calls.past.events ≡ []) }
 {
-    let lock = lock_directory(rt, format!(in alloc; "{directory}/lock")?)?;
+    let lock = format!(in alloc; "{directory}/lock")?;
+    let (lock, taken) = take_directory(rt, &options(true), lock)?;
     let files = open_four(rt, alloc, directory, how)?;
     // The names too are to be there after a stop.
     File::open(rt, directory)?.sync_all()?;
-    let calls = start.begin(&files);
+    let calls = start.begin(taken, &files);
     let first_error = FirstError::of(alloc, Device::locked(lock, files))?;
     Ok(DirDisk { calls, first_error })
 }
@@ -140,25 +137,6 @@ fn open_four<R: FileSystem<File = File>>(
     }
     files.iter().flatten().for_each(OpenFile::give_up_cached);
     Ok(files)
-}
-
-/// The file that stands for the directory, which is made if it is absent.
-fn lock_directory<R: FileSystem<File = File>>(rt: &R, path: String) -> io::Result<File> {
-    open_locked(rt, &options(true), path)
-}
-
-/// Opens the file, and locks it. The lock lasts until the file is closed.
-fn open_locked<R: FileSystem<File = File>>(
-    rt: &R,
-    how: &OpenOptions,
-    path: String,
-) -> io::Result<File> {
-    let file = how.open(rt, path.as_str())?;
-    match file.try_lock() {
-        Ok(()) => Ok(file),
-        Err(TryLockError::WouldBlock) => Err(io::Error::new(io::ErrorKind::WouldBlock, IN_USE)),
-        Err(TryLockError::Error(error)) => Err(error),
-    }
 }
 
 fn open_one<R: FileSystem<File = File>>(

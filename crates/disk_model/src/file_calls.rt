@@ -1,16 +1,49 @@
 //! The calls that a disk makes of its files, and which were made so far.
-ghost use Rattle.std.specs.Prelude.{◌≡◌, ℕ, ◌<◌, ◌≤◌, Bool, true, List, [], ◌∷◌, length, take, slice_index_or, Option, Some, None, IsTrue, IfOk, OnOk, OnErr};
+ghost use Rattle.std.specs.Prelude.{◌≡◌, ℕ, ◌<◌, ◌≤◌, Bool, true, List, [], ◌∷◌, length, take, Option, Some, None, IsTrue, IfOk, OnOk, OnErr};
+ghost use Rattle.disk_model.specs.FileCalls.{AreFiles};
 ghost use Rattle.disk_model.specs.Events.{Event, event_of, failed, wrote, broke, synced_file, measured, gave};
 ghost use Rattle.disk_model.specs.declared.file_calls.OpenFile.{OpenFile};
 
 use crate::device::fill_at;
 use crate::dir::Unknown;
 use crate::past::{Note, Past};
-use std::fs::File;
+use std::fs::{File, OpenOptions, TryLockError};
 use std::io;
 use std::marker::PhantomData;
 use std::os::fd::AsRawFd;
 use std::os::unix::fs::{FileExt, MetadataExt};
+use std::rt::Files as FileSystem;
+
+/// That the directory of a disk was taken, and no call of its files made yet. Only who can open a file
+/// gets one.
+#[derive(Drop)]
+pub struct Taken(());
+
+/// Why a directory can't be opened whose lock another process or value has.
+const IN_USE: &str = "in use by another process";
+
+/// Opens the file that stands for the directory, and locks it.
+pub(crate) fn take_directory<R: FileSystem<File = File>>(
+    rt: &R,
+    how: &OpenOptions,
+    path: String,
+) -> io::Result<(File, Taken)> {
+    Ok((open_locked(rt, how, path)?, Taken(())))
+}
+
+/// Opens the file, and locks it. The lock lasts until the file is closed.
+pub(crate) fn open_locked<R: FileSystem<File = File>>(
+    rt: &R,
+    how: &OpenOptions,
+    path: String,
+) -> io::Result<File> {
+    let file = how.open(rt, path.as_str())?;
+    match file.try_lock() {
+        Ok(()) => Ok(file),
+        Err(TryLockError::WouldBlock) => Err(io::Error::new(io::ErrorKind::WouldBlock, IN_USE)),
+        Err(TryLockError::Error(error)) => Err(error),
+    }
+}
 
 /// A file that is open. Only the calls of a `FileCalls` read or write it.
 #[derive(Drop)]
@@ -120,12 +153,11 @@ pub trait FileCalls: Drop {
     ghost is_file: { ℕ → Option OpenFile → Bool };
 
     /// Begins with these files, of which no call was made yet.
-    fn begin(self, files: &[Option<OpenFile>; 4]) -> CallLog<Self>
+    fn begin(self, taken: Taken, files: &[Option<OpenFile>; 4]) -> CallLog<Self>
     where
         Self: Sized,
         ensures none { result.past.events ≡ [] }
-        ensures files { (n : ℕ) → (other : Option OpenFile) → n < 4
-            → IsTrue (is_file n (slice_index_or files.now n other)) };
+        ensures files { AreFiles is_file files.now };
 
     /// How many bytes the file has.
     fn measure(log: &mut CallLog<Self>, number: usize, file: &OpenFile) -> io::Result<usize>
@@ -181,7 +213,7 @@ pub trait FileCalls: Drop {
 impl FileCalls for Unknown {
     ghost is_file = { λ number file. true };
 
-    fn begin(self, _files: &[Option<OpenFile>; 4]) -> CallLog<Unknown> {
+    fn begin(self, _taken: Taken, _files: &[Option<OpenFile>; 4]) -> CallLog<Unknown> {
         CallLog {
             past: Past::new(),
             of: PhantomData,

@@ -15,7 +15,7 @@ mod plan;
 pub use device::{DeviceCall, fill_at};
 pub use dir::{DirDisk, Start, Unknown};
 pub use disk::{DeviceError, Disk};
-pub use file_calls::{CallLog, FileCalls, OpenFile};
+pub use file_calls::{CallLog, FileCalls, OpenFile, Taken};
 pub use fill::Fill;
 pub use first_error::{FileError, FirstError};
 pub use memory::MemDisk;
