@@ -1,3 +1,4 @@
 mod PrepareLaws
 mod EmptyLaws
 pub mod Crosses
+pub mod GrowthLaws

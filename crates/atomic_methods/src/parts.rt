@@ -57,10 +57,12 @@ impl Model for Part {
 }
 
 impl Part {
-    /// An empty part of a map with `stripes` stripes.
+    /// An empty part of a map with `stripes` stripes. It has one bin, and no growth runs.
     pub fn new(alloc: Global, stripes: StripeCount) -> Result<Part, AllocError>
         ensures map { IfOk result (λ part. part.map ≡ finite.empty) }
         ensures stripes { IfOk result (λ part. part.growth.stripes ≡ stripes.count) }
+        ensures bins { IfOk result (λ part. part.growth.bins ≡ 1) }
+        ensures moved { IfOk result (λ part. part.growth.moved ≡ None) }
     {
         Ok(Part {
             table: Box::new(alloc, Growing::new(alloc, stripes)?)?,

@@ -25,8 +25,8 @@ use Rattle.one_history.specs.declared.slot.Slot.{Slot}
 use Rattle.one_history.specs.declared.slot.Slot.TheVariants.{Home, HeldBy}
 use Rattle.one_history.specs.Interleaving.{words_after, AreFound, steps_by}
 use Rattle.one_history.specs.Turns.{record_of, words_of, maps_of, opening_of, started, at_start}
-use Rattle.one_history.specs.OneHistory.{Knows, IsOneHistory, HoldsStripe, AreParts, changes_by, changes_in, stripe_in}
-use Rattle.one_history.specs.SharedWords.{slot_of, holder_in, Lies, draws_left, IsKept, IsPlaced, ArePlaced, AreEmpty, no_part}
+use Rattle.one_history.specs.OneHistory.{Knows, IsOneHistory, HoldsStripe, AreLaid, AreParts, changes_by, changes_in, stripe_in}
+use Rattle.one_history.specs.SharedWords.{slot_of, holder_in, Lies, draws_left, IsKept, IsPlaced, ArePlaced, AreEmpty, empty_part, no_part}
 use Rattle.one_history.proofs.Fronts.{front_refl}
 use Rattle.one_history.proofs.Interleavings.{none_made}
 
@@ -147,7 +147,7 @@ none_held o stripes n i j x =
 part_at : (n i : ℕ) (parts : List PartState) → AreParts n parts → length parts ≡ n → i < n → part_of n i (union_of (maps_of parts)) ≡ (get_or parts i no_part).map
 part_at n i parts are count lt =
     sym (get_or-map-range_with_len (λ s. part_of n s (union_of (maps_of parts))) 0 n i i finite.empty lt (omega arith))
-    ∙ (ap (λ (ms : List Map). get_or ms i finite.empty) (sym are) ∙ get_or-map (λ (p : PartState). p.map) parts i no_part finite.empty (omega arith))
+    ∙ (ap (λ (ms : List Map). get_or ms i finite.empty) (sym are.own) ∙ get_or-map (λ (p : PartState). p.map) parts i no_part finite.empty (omega arith))
 
 pub kept_at_start : (n first limit workers : ℕ) (parts : List PartState) (slots : List Slot) → length parts ≡ n → AreParts n parts → ArePlaced first parts slots → workers < 65536 → IsKept n first first false slots (at_start first parts limit workers)
 kept_at_start n first limit workers parts slots count are placed few =
@@ -187,25 +187,35 @@ part_of-empty n s = same_gets (part_of n s finite.empty) finite.empty (λ q. get
 entries-empty : (m : Map) → m ≡ finite.empty → finite.entries m ≡ []
 entries-empty m e = ap (λ (x : Map). finite.entries x) e ∙ nil_from_length _ (sym (finite.len-entries _) ∙ finite.len-empty (slice_cmp nat_cmp) Value)
 
-no_entries : (parts : List PartState) → AreEmpty parts → flat_map finite.entries (maps_of parts) ≡ []
-no_entries [] e = refl
-no_entries (p ∷ parts) e =
-    ap (λ es. es ++ flat_map finite.entries (maps_of parts)) (entries-empty p.map (All-head (λ (p : PartState). p.map ≡ finite.empty) p parts e))
-    ∙ no_entries parts (All-tail (λ (p : PartState). p.map ≡ finite.empty) p parts e)
+no_entries : (n : ℕ) (parts : List PartState) → AreEmpty n parts → flat_map finite.entries (maps_of parts) ≡ []
+no_entries n [] e = refl
+no_entries n (p ∷ parts) e =
+    ap (λ es. es ++ flat_map finite.entries (maps_of parts)) (entries-empty p.map (ap (λ (q : PartState). q.map) (All-head (λ (q : PartState). q ≡ empty_part n) p parts e)))
+    ∙ no_entries n parts (All-tail (λ (q : PartState). q ≡ empty_part n) p parts e)
 
-pub empty_union : (parts : List PartState) → AreEmpty parts → union_of (maps_of parts) ≡ finite.empty
-empty_union parts e = ap finite.from_entries (no_entries parts e)
+pub empty_union : {n : ℕ} (parts : List PartState) → AreEmpty n parts → union_of (maps_of parts) ≡ finite.empty
+empty_union {n = n} parts e = ap finite.from_entries (no_entries n parts e)
 
-empty_parts : (n a : ℕ) (parts : List PartState) → AreEmpty parts → maps_of parts ≡ map (λ s. part_of n s finite.empty) (range_with_len a (length parts))
+empty_parts : (n a : ℕ) (parts : List PartState) → AreEmpty n parts → maps_of parts ≡ map (λ s. part_of n s finite.empty) (range_with_len a (length parts))
 empty_parts n a [] e = refl
 empty_parts n a (p ∷ parts) e =
-    ap (λ m. m ∷ maps_of parts) (All-head (λ (p : PartState). p.map ≡ finite.empty) p parts e ∙ sym (part_of-empty n a))
-    ∙ ap (λ (ms : List Map). part_of n a finite.empty ∷ ms) (empty_parts n (a + 1) parts (All-tail (λ (p : PartState). p.map ≡ finite.empty) p parts e))
+    ap (λ m. m ∷ maps_of parts) (ap (λ (q : PartState). q.map) (All-head (λ (q : PartState). q ≡ empty_part n) p parts e) ∙ sym (part_of-empty n a))
+    ∙ ap (λ (ms : List Map). part_of n a finite.empty ∷ ms) (empty_parts n (a + 1) parts (All-tail (λ (q : PartState). q ≡ empty_part n) p parts e))
 
-pub empty_are_parts : (n : ℕ) (parts : List PartState) → length parts ≡ n → AreEmpty parts → AreParts n parts
+empty_are_laid : (n : ℕ) (parts : List PartState) → AreEmpty n parts → AreLaid n parts
+empty_are_laid n [] e = tt
+empty_are_laid n (p ∷ parts) e = (
+  ap (λ (q : PartState). q.growth.stripes) (All-head (λ (q : PartState). q ≡ empty_part n) p parts e),
+  empty_are_laid n parts (All-tail (λ (q : PartState). q ≡ empty_part n) p parts e),
+)
+
+pub empty_are_parts : (n : ℕ) (parts : List PartState) → length parts ≡ n → AreEmpty n parts → AreParts n parts
 empty_are_parts n parts count e =
     let all : maps_of parts ≡ parts_of n finite.empty = empty_parts n 0 parts e ∙ ap (λ l. map (λ s. part_of n s finite.empty) (range_with_len 0 l)) count in
-    all ∙ ap (λ m. parts_of n m) (sym (empty_union parts e))
+    record {
+      own = all ∙ ap (λ m. parts_of n m) (sym (empty_union parts e));
+      laid = empty_are_laid n parts e;
+    }
 
-pub empty_start : (n limit workers : ℕ) (parts : List PartState) → length parts ≡ n → AreEmpty parts → at_start 0 parts limit workers ≡ started (record { first = 0; map = finite.empty; key_limit = limit }) n workers
+pub empty_start : (n limit workers : ℕ) (parts : List PartState) → length parts ≡ n → AreEmpty n parts → at_start 0 parts limit workers ≡ started (record { first = 0; map = finite.empty; key_limit = limit }) n workers
 empty_start n limit workers parts count e = ap (λ (m : Map). started (record { first = 0; map = m; key_limit = limit }) (length parts) workers) (empty_union parts e) ∙ ap (λ l. started (record { first = 0; map = finite.empty; key_limit = limit }) l workers) count

@@ -1,7 +1,7 @@
 -- There is one history, of which each pass has seen a front and in which each recorded call is legal.
 use Rattle.std.specs.Prelude.{◌≡◌, ◌≢◌, ℕ, ◌+◌, ◌<◌, ◌≤◌, ◌==◌, List, [], ◌∷◌, ◌++◌, length, Option, Some, None, Bool}
 use Rattle.std.specs.Prelude.{true, false, if◌then◌else◌}
-use Rattle.std.specs.List.{All, Contains}
+use Rattle.std.specs.List.{All, AllByRecursion, Contains}
 use Rattle.map_types.specs.declared.commands.Command.{Command}
 use Rattle.map_model.specs.Parts.{parts_of, union_of}
 use Rattle.atomic_methods.specs.PartState.{PartState}
@@ -139,6 +139,11 @@ pub record HoldsStripe (b : Book) (j i : ℕ) : Type 0 where
 abbrev pub HoldApart : Book → Type 0
 HoldApart b = (i j l : ℕ) → HoldsStripe b j i → HoldsStripe b l i → j ≡ l
 
--- part s has the keys of stripe s, of n stripes, alone
-abbrev pub AreParts : ℕ → List PartState → Type 0
-AreParts n parts = maps_of parts ≡ parts_of n (union_of (maps_of parts))
+-- the bins of each part are chosen by the bits of the hash that are left of those that chose its stripe, of n stripes
+abbrev pub AreLaid : ℕ → List PartState → Type 0
+AreLaid n parts = AllByRecursion (λ (p : PartState). p.growth.stripes ≡ n) parts
+
+-- part s has the keys of stripe s, of n stripes, alone, and bins for them
+pub record AreParts (n : ℕ) (parts : List PartState) : Type 0 where
+  pub own : maps_of parts ≡ parts_of n (union_of (maps_of parts))
+  pub laid : AreLaid n parts

@@ -64,5 +64,12 @@ pub record ArePlaced (first : ℕ) (parts : List PartState) (slots : List Slot) 
   pub count : length slots ≡ length parts
   pub each : (i : ℕ) → i < length parts → IsPlaced first (slice_index_or parts i no_part) (slot_of i slots)
 
-abbrev pub AreEmpty : List PartState → Type 0
-AreEmpty parts = All (λ (p : PartState). p.map ≡ finite.empty) parts
+-- a part of a map of n stripes as it begins: it has no key and one bin, and no growth runs
+abbrev pub empty_part : ℕ → PartState
+empty_part n = record {
+  map = finite.empty;
+  growth = record { stripes = n; bins = 1; moved = None };
+}
+
+abbrev pub AreEmpty : ℕ → List PartState → Type 0
+AreEmpty n parts = All (λ (p : PartState). p ≡ empty_part n) parts

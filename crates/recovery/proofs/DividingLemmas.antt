@@ -17,7 +17,7 @@ use Rattle.map_model.specs.Parts.{part_of, parts_of, is_in_stripe, union_of}
 use Rattle.map_model.specs.Steps.{step, Stepped}
 use Rattle.map_model.proofs.MapLaws.{same_gets, get-part_of, step-part_of, step-part_of_other}
 use Rattle.atomic_methods.specs.PartState.{PartState}
-use Rattle.one_history.specs.OneHistory.{AreParts}
+use Rattle.one_history.specs.OneHistory.{AreLaid, AreParts}
 use Rattle.one_history.specs.Turns.{maps_of}
 use Rattle.store_layout.proofs.NewStores.{no_entries}
 use Rattle.recovery.specs.declared.lanes.Lane.{Lane}
@@ -97,8 +97,8 @@ module _ (n : ℕ) (m : Map) (c : Command) where
 -- ---- parts of the map that they make
 
 module _ (law : PartsMakeTheMap) (n : ℕ) (some : 0 < n) where
-  pub own_parts : (m : Map) (parts : List PartState) → maps_of parts ≡ parts_of n m → AreParts n parts
-  own_parts m parts maps = maps ∙ ap (parts_of n) (sym (ap union_of maps ∙ law n m some))
+  pub own_parts : (m : Map) (parts : List PartState) → maps_of parts ≡ parts_of n m → AreLaid n parts → AreParts n parts
+  own_parts m parts maps laid = record { own = maps ∙ ap (parts_of n) (sym (ap union_of maps ∙ law n m some)); laid = laid }
 
 -- ---- the empty map
 

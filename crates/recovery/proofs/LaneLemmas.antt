@@ -97,4 +97,4 @@ pub divided_of : (n : ℕ) (m : Map) (lanes : List Lane) (parts : List PartState
 divided_of n m lanes parts done taken are = record { maps = taken.maps ∙ done_maps lanes done ∙ are.maps; laid = taken.laid n are.laid }
 
 pub own_of : (law : PartsMakeTheMap) (n : ℕ) (some : 0 < n) (m : Map) (parts : List PartState) → IsDivided n m parts → ArePartsOf n parts
-own_of law n some m parts divided = record { one_each = many_made (λ (part : PartState). part.map) n m parts divided.maps; own = own_parts law n some m parts divided.maps }
+own_of law n some m parts divided = record { one_each = many_made (λ (part : PartState). part.map) n m parts divided.maps; own = own_parts law n some m parts divided.maps divided.laid }

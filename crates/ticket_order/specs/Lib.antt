@@ -4,3 +4,5 @@ pub mod Legality
 pub mod StepRules
 pub mod Calls
 pub mod Walks
+pub mod Sizes
+pub mod Growing

@@ -1,12 +1,13 @@
 //! Whole calls of one pass, which don't wait. They make the steps that their walks make.
-ghost use Rattle.std.specs.Prelude.{◌≡◌, None, Err, IfOk, IfErr, false};
+ghost use Rattle.std.specs.Prelude.{◌≡◌, None, Err, IfOk, IfErr, OnOk, OnErr, false};
+ghost use Rattle.atomic_methods.specs.PartState.{HasGrown};
 ghost use Rattle.java_hash.specs.Hash.{hash_of, spread_of};
 ghost use Rattle.java_hash.specs.Stripes.{stripe_of};
 ghost use Rattle.ticket_order.specs.declared.record.Record.{Record};
-ghost use Rattle.ticket_order.specs.Records.{IsWithin, past};
+ghost use Rattle.ticket_order.specs.Records.{IsWithin, giving, past};
 ghost use Rattle.ticket_order.specs.StepRules.{IsOfSamePass, Rises, TakesStripe};
 ghost use Rattle.ticket_order.specs.Calls.{FindsAlive, GivesBack, HasFound, IsNotBusy, LeavesRead, MakesCall, MakesRead, ReadsAt, RefusesChange, RefusesRead, Releases, TurnsDown};
-ghost use Rattle.ticket_order.specs.Walks.{ToChange, FitsChange};
+ghost use Rattle.ticket_order.specs.Walks.{ToChange, FitsChange, HasContent};
 
 use crate::change_walk::{ChangeStage, NewChange, TICKET_LIMIT};
 use crate::held::{Held, Released};
@@ -189,7 +190,7 @@ fn change_on<S: Steps>(
     steps: &mut S,
     new: NewChange,
     spread: u32,
-    mut taken: Taken,
+    taken: Taken,
 ) -> Result<Held, Refusal>
     // The spread is the key's, which is within the limit, and whose stripe was taken with this content.
     requires spread { spread ≡ spread_of (hash_of new.command.key) }
@@ -217,37 +218,93 @@ fn change_on<S: Steps>(
     // It is the same pass, over as many stripes.
     ensures pass { IsOfSamePass S.place S.stripe_count steps.old steps.new }
 {
+    let (taken, answer) = change_taken(steps, new, spread, taken);
+    steps.give(taken.stripe, taken.content, Purpose::Nothing);
+    answer
+}
+
+/// Makes a change on its stripe, of which the TAKE was made, but for its GIVE: ALIVE, LOOK, TICKET.
+/// What it returns is to be given back, also if the change is refused.
+fn change_taken<S: Steps>(
+    steps: &mut S,
+    new: NewChange,
+    spread: u32,
+    mut taken: Taken,
+) -> (Taken, Result<Held, Refusal>)
+    // The spread is the key's, which is within the limit, and whose stripe was taken with this content.
+    requires spread { spread ≡ spread_of (hash_of new.command.key) }
+    requires within { IsWithin (S.recorded steps.old).opening.key_limit new.command }
+    requires stripe { taken.stripe ≡ stripe_of (S.stripe_count steps.old) new.command.key }
+    requires found { (b : Record) × HasFound b taken.stripe taken.content (S.recorded steps.old) }
+
+    // The stripe is held, and has this to be given back.
+    ensures content { HasContent (S.recorded steps.new) result.0 }
+
+    // A growth that was due has begun or is put off, and the one that runs was helped once; if
+    // refused, it stays.
+    ensures growth { OnOk result.1 (HasGrown taken.content.part result.0.content.part) }
+    ensures unchanged { OnErr result.1
+        (result.0.content.part.growth ≡ taken.content.part.growth) }
+
+    // With its GIVE the change is made, and the record grows by this call alone.
+    ensures made { (b : Record) → HasFound b taken.stripe taken.content (S.recorded steps.old) →
+        IfOk result.1 (λ held. MakesCall (S.stripe_count steps.old) b new.command
+        held.position held.reply (giving Purpose.Nothing (S.recorded steps.new))) }
+
+    // Or it is refused, but not as busy, and no call is added. `Failed` tells what the TAKE showed.
+    ensures refused { (b : Record) → HasFound b taken.stripe taken.content (S.recorded steps.old)
+        → IfErr result.1 (λ refusal.
+        (refusal ≡ Refusal.Failed
+        → Rises b (past taken.content.outbox.items) (S.recorded steps.old))
+        → RefusesChange b (stripe_of (S.stripe_count steps.old) new.command.key) refusal
+        (giving Purpose.Nothing (S.recorded steps.new))) }
+    ensures failed { (b : Record) → HasFound b taken.stripe taken.content (S.recorded steps.old)
+        → result.1 ≡ Err Refusal.Failed → GivesBack b (FindsAlive b taken.stripe false)
+        (giving Purpose.Nothing (S.recorded steps.new)) }
+    ensures not_busy { IfErr result.1 IsNotBusy }
+
+    // It is the same pass, over as many stripes.
+    ensures pass { IsOfSamePass S.place S.stripe_count steps.old steps.new }
+{
     if !steps.alive() {
         drop(new);
-        return Err(taken.give_back(Refusal::Failed, steps));
+        return (taken, Err(Refusal::Failed));
     }
     if steps.look() >= TICKET_LIMIT {
         drop(new);
-        return Err(taken.give_back(Refusal::TicketsSpent, steps));
+        return (taken, Err(Refusal::TicketsSpent));
     }
     match taken.content.prepare(new.alloc, &new.command, spread) {
-        Ok(prepared) => Ok(change_ready(steps, new, taken, prepared)),
+        Ok(prepared) => {
+            let (taken, held) = change_ready(steps, new, taken, prepared);
+            (taken, Ok(held))
+        }
         Err(refusal) => {
             drop(new);
-            Err(taken.give_back(refusal, steps))
+            (taken, Err(refusal))
         }
     }
 }
 
-/// Makes a change that has all its memory: TICKET, GIVE.
-fn change_ready<S: Steps>(steps: &mut S, new: NewChange, taken: Taken, prepared: Prepared) -> Held
+/// Makes a change that has all its memory, but for its GIVE: TICKET. The growth stays as it is.
+fn change_ready<S: Steps>(
+    steps: &mut S,
+    new: NewChange,
+    taken: Taken,
+    prepared: Prepared,
+) -> (Taken, Held)
     requires { (b : Record) × FitsChange (S.stripe_count steps.old) b (ToChange new.command)
         (ChangeStage.IsReady new taken prepared) (S.recorded steps.old) }
+    ensures content { HasContent (S.recorded steps.new) result.0 }
+    ensures growth { result.0.content.part.growth ≡ taken.content.part.growth }
     ensures made { (b : Record) → FitsChange (S.stripe_count steps.old) b (ToChange new.command)
         (ChangeStage.IsReady new taken prepared) (S.recorded steps.old) →
         MakesCall (S.stripe_count steps.old) b new.command
-        result.position result.reply (S.recorded steps.new) }
+        result.1.position result.1.reply (giving Purpose.Nothing (S.recorded steps.new)) }
     ensures pass { IsOfSamePass S.place S.stripe_count steps.old steps.new }
 {
     let ticket = steps.ticket(&new.command);
-    let (taken, held) = new.drawn(taken, prepared, ticket);
-    steps.give(taken.stripe, taken.content, Purpose::Nothing);
-    held
+    new.drawn(taken, prepared, ticket)
 }
 
 /// Makes a read of its stripe, of which the TAKE was made: ALIVE, GIVE.

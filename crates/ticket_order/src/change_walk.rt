@@ -4,6 +4,7 @@ ghost use Rattle.ticket_order.specs.declared.record.Record.{Record};
 ghost use Rattle.ticket_order.specs.StepRules.{IsOfSamePass};
 ghost use Rattle.ticket_order.specs.Memory.{HasMemory};
 ghost use Rattle.ticket_order.specs.Walks.{Task, FitsChange, Next, MakesOne, next_of_change, HasFewerLeft, left_of_change, HasChanged};
+ghost use Rattle.ticket_order.specs.Growing.{GrowsOnce};
 
 use crate::held::Held;
 use crate::numbers::Ticket;
@@ -69,6 +70,7 @@ fn draw<S: Steps>(new: NewChange, taken: Taken, prepared: Prepared, steps: &mut 
         → Next (S.stripe_count steps.old) b task result (S.recorded steps.new) }
     ensures shorter { HasFewerLeft (left_of_change (ChangeStage.IsReady new taken prepared))
         result }
+    ensures growth { GrowsOnce (ChangeStage.IsReady new taken prepared) result }
 
     // It is the same pass, over as many stripes.
     ensures pass { IsOfSamePass S.place S.stripe_count steps.old steps.new }
@@ -99,6 +101,9 @@ impl ChangeStage {
             → FitsChange (S.stripe_count steps.old) b task self (S.recorded steps.old)
             → Next (S.stripe_count steps.old) b task result (S.recorded steps.new) }
         ensures shorter { HasFewerLeft (left_of_change self) result }
+
+        // It helps the growth of the part that it holds once, as it gets its memory.
+        ensures growth { GrowsOnce self result }
 
         // It is the same pass, over as many stripes.
         ensures pass { IsOfSamePass S.place S.stripe_count steps.old steps.new }

@@ -1,8 +1,9 @@
 //! Replies that are held until their positions are durable.
 ghost use Rattle.std.specs.Prelude.{◌≡◌};
+ghost use Rattle.ticket_order.specs.Sizes.{bytes_of_value, text_bytes};
 
 use crate::numbers::Position;
-use map_types::Reply;
+use map_types::{Reply, Value};
 
 /// A reply whose position may not be durable yet. It can't be looked at: a release gives it out, or
 /// it is given up.
@@ -19,8 +20,28 @@ impl Held {
         self.position
     }
 
+    /// How many bytes the text has that the reply has, or 0 if it has none. By this a caller can
+    /// bound the memory of the replies that it holds.
+    pub fn text_bytes(&self) -> usize
+        ensures { result ≡ text_bytes self.now.reply }
+    {
+        match &self.reply {
+            Reply::Was(value) | Reply::Now(value) => value_bytes(value),
+            Reply::Did(_) | Reply::Fault(_) => 0,
+        }
+    }
+
     /// Gives the reply up. The change, if it was one, was made all the same.
     pub fn give_up(self) {}
+}
+
+fn value_bytes(value: &Option<Value>) -> usize
+    ensures { result ≡ bytes_of_value value.now }
+{
+    match value {
+        Some(Value::Text(text)) => text.as_str().len(),
+        Some(Value::Int(_)) | None => 0,
+    }
 }
 
 /// What a release returns.

@@ -21,7 +21,7 @@ returns c =
     let parts = c.args.parts.now in
     let n = c.requires.0 in
     let whole = union_of (maps_of parts) in
-    let own : maps_of parts ≡ parts_of n whole = c.requires.1.own in
+    let own : maps_of parts ≡ parts_of n whole = c.requires.1.own.own in
     let all : map entry_of c.loop-part.entries.items ≡ flat_map finite.entries (maps_of parts) =
     c.loop-part.invariant ∙ ap (λ (ps : List PartState). flat_map finite.entries (maps_of ps)) (take_all c.loop-part.part-index parts c.loop-part-test.false) in
     let moved : IsPermutation c.loop-part.entries.items c.sort_unstable_by.new.self.items = c.sort_unstable_by.ensures.permutation in

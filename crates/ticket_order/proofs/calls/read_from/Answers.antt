@@ -1,6 +1,5 @@
-use Rattle.std.proofs.Common.{◌≡◌, max, true, false, ◌∙◌, ap, refl, subst, sym}
+use Rattle.std.proofs.Common.{◌≡◌, max, true, false, ◌∙◌, ap, refl}
 use Rattle.java_hash.specs.Stripes.{stripe_of}
-use Rattle.ticket_order.specs.Calls.{LeavesRead}
 use Rattle.ticket_order.specs.Walks.{ToRead}
 use Rattle.ticket_order.proofs.Walking.{found_content, taken_content, content_lived, given_back_alive, took_alive, may_answer, read_at, read_failed, read_starved, made_read}
 use Rattle.ticket_order.proofs.calls.read_from.Goals as goal
