@@ -24,9 +24,9 @@ AreComparable xs ys = IsFront xs ys ⊎ IsFront ys xs
 abbrev pub later_of : List PassStep → List PassStep → List PassStep
 later_of xs ys = if nat_lt (length xs) (length ys) then ys else xs
 
--- The view of a seat that is no pass's any more. It keeps what two passes have seen, lists both, and keeps the one order
--- with the steps of both. If the other is the keeper's, it keeps also the steps of the one, with what the keeper published and whether
--- it failed.
+-- The view of a seat that is no pass's any more. It lists two passes, and keeps what both have seen, and the one order
+-- with the steps of both. If the other is the keeper's, it keeps also the steps of the one, with what the keeper
+-- published and whether it failed.
 abbrev pub both_fronts : SeatView → SeatView → SeatView
 both_fronts v w = record {
   pass = record (newcomer v.pass.opening) {

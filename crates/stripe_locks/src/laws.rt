@@ -11,14 +11,16 @@ pub fn held_at_is_held_of()
         → IsHeldAt (name_of_words stripes) held → IsHeldOf stripes held }
 {}
 
-/// No step is put into the past. Whatever a pass records by one atomic step that keeps the rule of
-/// the shared words, it stands last in the one order, and finds what the words hold then.
+/// No step is put into the past. Whatever a pass that has joined records by one atomic step that
+/// keeps the rule of the shared words, it stands last in the one order, and finds what the words
+/// hold then. That is so on each word: no such step lets another pass join, which would have no
+/// seat.
 pub fn new_steps_stand_last()
     ensures { StandLast }
 {}
 
-/// The order of all steps isn't chosen anew from step to step: what the seats of all passes know
-/// determines it.
+/// The order of all steps isn't chosen anew from step to step: what the seats know determines it.
+/// Each pass that has joined is listed by one seat, also after two were compared.
 pub fn seats_determine_the_order()
     ensures { IsDetermined }
 {}

@@ -9,6 +9,7 @@ pub struct SeatView {
     pub pass: Record,
     /// The steps of all passes in their one order, up to the last step of this pass or further.
     pub order: LinkedList<PassStep>,
-    /// The places of the passes whose steps it knows all: its own pass, or the two that were compared.
+    /// The places of the passes that it lists, all of whose steps it knows: its own, or the two
+    /// that were compared.
     pub places: LinkedList<u64>,
 }
