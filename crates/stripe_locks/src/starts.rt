@@ -51,7 +51,8 @@ fn first_words(alloc: Global, count: StripeCount, first: u64) -> Result<Vec<u64>
 
 impl Stripes {
     /// Stripes that begin with the first `first` changes made, known by the map that the parts make;
-    /// part s has keys of stripe s alone. The keys of later changes have at most `key_limit` bytes.
+    /// part s has keys of stripe s alone, and bins for them. The keys of later changes have at most
+    /// `key_limit` bytes.
     pub fn new(
         alloc: Global,
         count: StripeCount,
