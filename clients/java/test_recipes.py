@@ -8,24 +8,18 @@ server and the workers are killed by SIGKILL and started again, in turn. At the 
 what the map has. Waiting is bounded in turns. The last line is `N passed, M failed`.
 """
 import collections
-import contextlib
 import os
-import random
 import subprocess
 import sys
-import threading
 import time
 import unittest
 
-from harness import servers, suite
-from harness.places import JAVA, read
-from harness.suite import wait_until
+from harness import kills, suite
+from harness.kills import kills_of, of_kind
+from harness.places import JAVA
 
 PROGRAM = os.path.realpath(suite.named_program())
-NAMES = ("w0", "w1", "w2")
-# After so many lines of all workers the next one is killed: the server, and workers.
-KILLS, LINES_BETWEEN = ("server", "w0", "server", "w1", "w2", "server"), 30
-MOST_TURNS, SERVER_WORKERS = 3000, 4
+KILLS = ("server", "w0", "server", "w1", "w2", "server")
 
 
 def java(recipe, *words):
@@ -33,131 +27,9 @@ def java(recipe, *words):
     return ["java", "-XX:TieredStopAtLevel=1", "-XX:+UseSerialGC", "-Xshare:auto", "-cp", path, "examples." + recipe, *words]
 
 
-class Server:
-    """`dchm serve` at one port, which is killed and started again."""
-
-    def __init__(self, room):
-        self.directory, self.port, self.child = os.path.join(room, "map"), servers.free_port(), None
-        servers.init(PROGRAM, self.directory)
-
-    def listens(self):
-        words = [PROGRAM, "serve", self.directory, "--port", str(self.port), "--workers", str(SERVER_WORKERS)]
-        with open(self.directory + ".errors", "ab") as errors:
-            self.child = subprocess.Popen(words, stdin=subprocess.DEVNULL, stdout=subprocess.PIPE, stderr=errors)
-        if servers.first_line(self.child) == b"listening %d\n" % self.port:
-            return True
-        self.kill()
-        return False
-
-    def start(self):
-        if not wait_until(self.listens, MOST_TURNS):
-            raise RuntimeError("the server doesn't start: " + read(self.directory + ".errors"))
-
-    def kill(self):
-        if self.child:
-            self.child.kill()
-            self.child.wait()
-            self.child.stdout.close()
-        self.child = None
-
-    def values(self, keys):
-        """The values of the keys as `dchm call` prints them, such as `i5` and `ta text`; `_` if there is none."""
-        printed = self.call("-", given="".join(f"get {key}\n" for key in keys)) if keys else ""
-        return dict(zip(keys, (line.removeprefix("now ") for line in printed.splitlines()), strict=True))
-
-    def call(self, *words, given=None):
-        status, printed, said = servers.run_program(PROGRAM, "call", "--port", str(self.port), *words, given=given, seconds=60)
-        if status:
-            raise RuntimeError(f"call {words}: status {status}, {said}")
-        return printed
-
-    def count(self):
-        return int(self.call("count").removeprefix("now i"))
-
-
-class Worker:
-    """A process of a recipe under one name, which is killed and started again, and the lines of all its lives."""
-
-    def __init__(self, recipe, port, name, errors):
-        self.words, self.name, self.errors = java(recipe, str(port), name), name, errors
-        self.lines, self.kills, self.child = [], 0, None
-
-    def start(self):
-        self.child = subprocess.Popen(self.words, stdin=subprocess.PIPE, stdout=subprocess.PIPE, stderr=self.errors, text=True)
-        self.reader = threading.Thread(target=self.read, args=(self.child.stdout,), daemon=True)
-        self.reader.start()
-
-    def read(self, stream):
-        with contextlib.suppress(ValueError), stream:
-            for line in stream:
-                if line.endswith("\n"):
-                    self.lines.append(line.split())
-
-    def kill(self):
-        self.kills += 1
-        self.child.kill()
-        self.child.wait()
-        self.child.stdin.close()
-        self.reader.join()
-
-    def end(self):
-        """Lets it end by itself; returns its status."""
-        self.child.stdin.close()
-        ended = wait_until(lambda: self.child.poll() is not None, MOST_TURNS)
-        if not ended:
-            self.kill()
-        self.reader.join()
-        return self.child.returncode if ended else "none: it doesn't end"
-
-
-@contextlib.contextmanager
 def beside_kills(recipe):
     """The workers of a recipe after all kills, and the server, which still runs."""
-    with servers.temporary_directory() as room, open(os.path.join(room, "errors"), "w+", encoding="utf-8") as errors:
-        server = Server(room)
-        server.start()
-        workers = {name: Worker(recipe, server.port, name, errors) for name in NAMES}
-        try:
-            play(server, workers)
-            statuses = [worker.end() for worker in workers.values()]
-            errors.seek(0)
-            if statuses != [0] * len(workers):
-                raise AssertionError(f"workers ended with {statuses}: {errors.read()[-2000:]}")
-            yield list(workers.values()), server
-        finally:
-            for worker in workers.values():
-                if worker.child and worker.child.poll() is None:
-                    worker.kill()
-            server.kill()
-
-
-def play(server, workers):
-    for worker in workers.values():
-        worker.start()
-    chance = random.Random(1)
-
-    def lines():
-        return sum(len(worker.lines) for worker in workers.values())
-
-    for killed in KILLS:
-        wanted = lines() + LINES_BETWEEN
-        if not wait_until(lambda: lines() >= wanted, MOST_TURNS):
-            raise AssertionError("the workers don't go on: " + str([worker.lines[-1:] for worker in workers.values()]))
-        time.sleep(chance.random() * 0.05)
-        (server if killed == "server" else workers[killed]).kill()
-        (server if killed == "server" else workers[killed]).start()
-    # Whatever a killed worker left is taken over or given back before the end.
-    wanted = {name: len(worker.lines) + 20 for name, worker in workers.items()}
-    if not wait_until(lambda: all(len(worker.lines) >= wanted[name] for name, worker in workers.items()), MOST_TURNS):
-        raise AssertionError("a worker doesn't go on: " + str([worker.lines[-1:] for worker in workers.values()]))
-
-
-def of_kind(workers, kind):
-    return [line[1:] for worker in workers for line in worker.lines if line[0] == kind]
-
-
-def kills_of(workers):
-    return sum(worker.kills for worker in workers)
+    return kills.beside_kills(PROGRAM, lambda port, name: java(recipe, port, name), KILLS)
 
 
 class Recipes(unittest.TestCase):

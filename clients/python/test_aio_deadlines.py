@@ -12,13 +12,14 @@ import signal
 import sys
 import time
 import unittest
+from unittest import mock
 
 import dchm
 import dchm.aio
 from harness import servers, suite
 from harness.suite import TURN_SECONDS
 from support import (LONG, MOST_TURNS, PATIENT, SHORT, READY, Peer, deaf, get_frame, put_frame, real_process, replying,
-                     Proxy, silent, sum_frame)
+                     Proxy, silent, stand_in, sum_frame)
 
 # Far more than a deadline of SHORT, and far less than what the client would wait for otherwise.
 SOON = 60
@@ -37,6 +38,15 @@ async def until(holds):
 
 async def together(calls):
     return await asyncio.gather(*calls, return_exceptions=True)
+
+
+async def outcome_of(task):
+    """What is true of the call of a task that was cancelled."""
+    try:
+        await task
+    except asyncio.CancelledError as error:
+        return dchm.outcome(error)
+    raise AssertionError("it wasn't cancelled")
 
 
 class Aio(unittest.IsolatedAsyncioTestCase):
@@ -113,13 +123,16 @@ class Aio(unittest.IsolatedAsyncioTestCase):
     async def test_cancelled_calls_keep_their_places(self):
         with Peer(silent) as peer:
             async with await dchm.aio.connect(peer.port, in_flight=4, **PATIENT) as s:
-                for _ in range(3):
+                for turn in range(3):
                     tasks = [asyncio.create_task(s.merge(f"k{number}", dchm.SUM, 1)) for number in range(20)]
                     await until(lambda: len(peer.got) >= 5)
                     for task in tasks:
                         task.cancel()
-                    found = await together(tasks)
-                    self.assertEqual(self.kinds(found), {asyncio.CancelledError})
+                    told = [await outcome_of(task) for task in tasks]
+                    if turn == 0:
+                        # Later on the tasks may be cancelled before they call.
+                        self.assertEqual(self.kinds(told), {dchm.NotMade, dchm.OutcomeOpen})
+                        self.assertEqual([each.key for each in told], [f"k{number}" for number in range(20)])
                 await asyncio.sleep(TURN_SECONDS)
                 # The first request of a connection, and four of the sixty.
                 self.assertEqual(len(peer.got), 5)
@@ -130,10 +143,35 @@ class Aio(unittest.IsolatedAsyncioTestCase):
                 first, second = (asyncio.create_task(s.put(key, 1)) for key in "ab")
                 await until(lambda: put_frame("a", 1) in peer.got)
                 second.cancel()
-                await together([second])
+                told = await outcome_of(second)
+                self.assertEqual((type(told), told.method, told.key), (dchm.NotMade, "put", "b"))
                 await s.close()
                 self.assertEqual(self.kinds(await together([first])), {dchm.OutcomeOpen})
             self.assertNotIn(put_frame("b", 1), peer.got)
+
+    async def test_what_is_true_of_a_cancelled_call_is_told(self):
+        with Peer(silent) as peer:
+            async with await dchm.aio.connect(peer.port, **PATIENT) as s:
+                with self.assertRaises(asyncio.TimeoutError) as caught:
+                    await asyncio.wait_for(s.put("a", 1), SHORT)
+                told = dchm.outcome(caught.exception)
+                self.assertEqual((type(told), told.method, told.key), (dchm.OutcomeOpen, "put", "a"))
+
+    async def test_a_call_that_was_made_as_its_task_was_cancelled_says_its_result(self):
+        with stand_in() as there:
+            async with await dchm.aio.connect(there.address, **PATIENT) as s:
+                task = asyncio.create_task(s.merge("a", dchm.SUM, 3))
+                tell = s._tell
+
+                def tell_and_cancel():
+                    has_ended = bool(s._core.finished)
+                    tell()
+                    if has_ended:
+                        task.cancel()
+
+                with mock.patch.object(s, "_tell", tell_and_cancel):
+                    told = await outcome_of(task)
+                self.assertEqual((type(told), told.result), (dchm.Made, 3))
 
     async def test_a_closed_client_stays_closed(self):
         with Peer(silent) as peer:

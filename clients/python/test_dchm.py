@@ -14,10 +14,13 @@ import sys
 import threading
 import time
 import unittest
+from unittest import mock
 
 import dchm
 from dchm import wire
 from dchm.core import Link
+from dchm.lane import Lane
+from dchm.pool import Pool
 from support import (ALONE, LONG, MOST_TURNS, PATIENT, SHORT, get_frame, name_of, put_frame, real, real_at_socket, request_of,
                      rows, stand_in, sum_frame, told)
 from harness import suite
@@ -338,12 +341,51 @@ class Outcomes(unittest.TestCase):
                     os.kill(os.getpid(), signal.SIGUSR1)
                 thread = threading.Thread(target=signals)
                 thread.start()
-                self.assertRaises(KeyboardInterrupt, call)
+                with self.assertRaises(KeyboardInterrupt) as caught:
+                    call()
                 thread.join()
+                found = dchm.outcome(caught.exception)
+                self.assertEqual((type(found), found.method, found.key), {
+                    get_frame("a"): (dchm.NotMade, "get", "a"), sum_frame("b"): (dchm.OutcomeOpen, "merge", "b")}[frame])
                 self.assertIs(server.contains("a"), True)
                 self.assertEqual(there.received(frame), 1)
             other.get("release")
             self.assertEqual((server.get("a"), server.get("b")), (5, 1))
+
+    def test_what_was_not_sent_as_an_interrupt_came_was_not_made(self):
+        with stand_in() as there, dchm.connect(there.address, **PATIENT) as server:
+            for method in ("look", "_step"):
+                server._pool._free[0].end(OSError("a test's own"))
+                with mock.patch.object(Lane, method, side_effect=KeyboardInterrupt), self.assertRaises(KeyboardInterrupt) as caught:
+                    server.put("a", 1)
+                found = dchm.outcome(caught.exception)
+                self.assertEqual((type(found), found.method, found.key), (dchm.NotMade, "put", "a"))
+            with mock.patch.object(Pool, "taken", side_effect=KeyboardInterrupt), self.assertRaises(KeyboardInterrupt) as caught:
+                server.put("a", 1)
+            self.assertIs(type(dchm.outcome(caught.exception)), dchm.NotMade)
+            self.assertIsNone(dchm.outcome(KeyboardInterrupt()))
+            self.assertEqual((server.get("a"), there.received(put_frame("a", 1))), (None, 0))
+
+    def test_a_call_that_was_made_as_an_interrupt_came_says_its_result(self):
+        whole = Lane._step
+
+        def step(lane):
+            whole(lane)
+            if lane.core.finished:
+                raise KeyboardInterrupt
+
+        with stand_in() as there, dchm.connect(there.address, **PATIENT) as server:
+            server.put("a", 1)
+            with mock.patch.object(Lane, "_step", step):
+                with self.assertRaises(KeyboardInterrupt) as caught:
+                    server.merge("a", dchm.SUM, 1)
+                self.assertEqual((type(dchm.outcome(caught.exception)), dchm.outcome(caught.exception).result), (dchm.Made, 2))
+                with self.assertRaises(KeyboardInterrupt) as caught, server.pipeline() as calls:
+                    calls.put("a", 1)
+                    calls.get("b")
+                found = dchm.outcome(caught.exception)
+                self.assertEqual((type(found), type(found.replies[0])), (dchm.PipelineFailed, dchm.Made))
+            self.assertEqual(server.get("a"), 1)
 
     def test_connecting_tells_why_it_failed(self):
         with stand_in("get '' failed") as there:

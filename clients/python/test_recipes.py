@@ -10,18 +10,15 @@ last line is `N passed, M failed`.
 import collections
 import contextlib
 import os
-import random
-import subprocess
 import sys
-import threading
 import time
 import unittest
 
 import dchm
-from harness import servers, suite
-from harness.places import PYTHON, read
-from harness.suite import wait_until
-from support import PATIENT, PROGRAM, WORKERS, real
+from harness import kills, suite
+from harness.kills import NAMES, kills_of, of_kind
+from harness.places import PYTHON
+from support import PATIENT, PROGRAM, real
 
 EXAMPLES = os.path.join(PYTHON, "examples")
 sys.path.insert(0, EXAMPLES)
@@ -32,116 +29,16 @@ import rate_limit  # noqa: E402
 import sessions  # noqa: E402
 import stock  # noqa: E402
 
-NAMES = ("w0", "w1", "w2")
-# After so many lines of all workers the next one is killed: the server twice, and workers.
-KILLS, LINES_BETWEEN = ("server", "w0", "w1", "server", "w2", "w0", "server", "w1"), 30
-MOST_TURNS = 3000
-
-
-class Server:
-    """`dchm serve` at one port, which is killed and started again."""
-
-    def __init__(self, room):
-        self.directory, self.port, self.child = os.path.join(room, "map"), servers.free_port(), None
-        servers.init(PROGRAM, self.directory)
-
-    def listens(self):
-        words = [PROGRAM, "serve", self.directory, "--port", str(self.port), "--workers", str(WORKERS)]
-        with open(self.directory + ".errors", "ab") as errors:
-            self.child = subprocess.Popen(words, stdin=subprocess.DEVNULL, stdout=subprocess.PIPE, stderr=errors)
-        if servers.first_line(self.child) == b"listening %d\n" % self.port:
-            return True
-        self.kill()
-        return False
-
-    def start(self):
-        if not wait_until(self.listens, MOST_TURNS):
-            raise RuntimeError("the server doesn't start: " + read(self.directory + ".errors"))
-
-    def kill(self):
-        if self.child:
-            servers.kill(self.child)
-            self.child.stdout.close()
-        self.child = None
-
-
-class Worker:
-    """A process of a recipe under one name, which is killed and started again, and the lines of all its lives."""
-
-    def __init__(self, recipe, port, name, errors):
-        self.words, self.name, self.errors = [sys.executable, os.path.join(EXAMPLES, recipe), str(port), name], name, errors
-        self.lines, self.kills, self.child = [], 0, None
-
-    def start(self):
-        environment = {**os.environ, "PYTHONPATH": PYTHON, "PYTHONDONTWRITEBYTECODE": "1"}
-        self.child = subprocess.Popen(self.words, env=environment, stdin=subprocess.PIPE, stdout=subprocess.PIPE,
-                                      stderr=self.errors, text=True)
-        self.reader = threading.Thread(target=self.read, args=(self.child.stdout,), daemon=True)
-        self.reader.start()
-
-    def read(self, stream):
-        with contextlib.suppress(ValueError), stream:
-            for line in stream:
-                if line.endswith("\n"):
-                    self.lines.append(line.split())
-
-    def kill(self):
-        self.kills += 1
-        servers.kill(self.child)
-        self.child.stdin.close()
-        self.reader.join()
-
-    def end(self):
-        """Lets it end by itself; returns its status."""
-        self.child.stdin.close()
-        ended = wait_until(lambda: self.child.poll() is not None, MOST_TURNS)
-        if not ended:
-            self.kill()
-        self.reader.join()
-        return self.child.returncode if ended else "none: it doesn't end"
+KILLS = ("server", "w0", "w1", "server", "w2", "w0", "server", "w1")
 
 
 @contextlib.contextmanager
 def beside_kills(recipe):
     """The workers of a recipe after all kills, and a client of the server, which still runs."""
-    with servers.temporary_directory() as room, open(os.path.join(room, "errors"), "w+", encoding="utf-8") as errors:
-        server = Server(room)
-        server.start()
-        workers = {name: Worker(recipe, server.port, name, errors) for name in NAMES}
-        try:
-            play(server, workers)
-            statuses = [worker.end() for worker in workers.values()]
-            errors.seek(0)
-            if statuses != [0] * len(workers):
-                raise AssertionError(f"workers ended with {statuses}: {errors.read()[-2000:]}")
-            with dchm.connect(server.port, **PATIENT) as client:
-                yield list(workers.values()), client
-        finally:
-            for worker in workers.values():
-                if worker.child and worker.child.poll() is None:
-                    worker.kill()
-            server.kill()
-
-
-def play(server, workers):
-    for worker in workers.values():
-        worker.start()
-    chance = random.Random(1)
-    for killed in KILLS:
-        wanted = sum(len(worker.lines) for worker in workers.values()) + LINES_BETWEEN
-        if not wait_until(lambda: sum(len(worker.lines) for worker in workers.values()) >= wanted, MOST_TURNS):
-            raise AssertionError("the workers don't go on: " + str([worker.lines[-1:] for worker in workers.values()]))
-        time.sleep(chance.random() * 0.05)
-        (server if killed == "server" else workers[killed]).kill()
-        (server if killed == "server" else workers[killed]).start()
-    # Whatever a killed worker left is taken over or given back before the end.
-    wanted = {name: len(worker.lines) + 20 for name, worker in workers.items()}
-    if not wait_until(lambda: all(len(worker.lines) >= wanted[name] for name, worker in workers.items()), MOST_TURNS):
-        raise AssertionError("a worker doesn't go on: " + str([worker.lines[-1:] for worker in workers.values()]))
-
-
-def of_kind(workers, kind):
-    return [line[1:] for worker in workers for line in worker.lines if line[0] == kind]
+    def words(port, name):
+        return ["env", "PYTHONPATH=" + PYTHON, sys.executable, "-B", os.path.join(EXAMPLES, recipe), port, name]
+    with kills.beside_kills(PROGRAM, words, KILLS) as (workers, server), dchm.connect(server.port, **PATIENT) as client:
+        yield workers, client
 
 
 class Recipes(unittest.TestCase):
@@ -211,16 +108,15 @@ class Recipes(unittest.TestCase):
                 self.assertEqual({texts.get(f"order:{order}") for order in released}, {"released"})
                 missing = stock.BEGIN - left - sum(sold.values())
                 # A worker that was killed may have sold one order of at most 3 without a word.
-                self.assertIn(missing, range(3 * sum(worker.kills for worker in workers) + 1), item)
+                self.assertIn(missing, range(3 * kills_of(workers) + 1), item)
 
     def test_rate_limit(self):
         with beside_kills("rate_limit.py") as (workers, client):
             told = {kind: collections.Counter(window for window, in of_kind(workers, kind))
                     for kind in ("allowed", "refused", "open", "away")}
             self.assertLessEqual(max(told["allowed"].values()), rate_limit.MOST)
-            kills = sum(worker.kills for worker in workers)
             for window in told["refused"]:
-                self.assertGreaterEqual(told["allowed"][window] + told["open"][window] + kills, rate_limit.MOST, window)
+                self.assertGreaterEqual(told["allowed"][window] + told["open"][window] + kills_of(workers), rate_limit.MOST, window)
             windows = {window for kind in told.values() for window in kind}
             # The worker that sweeps has done so after its last line.
             last = max(int(line[1]) for line in workers[0].lines)
@@ -247,7 +143,7 @@ class Recipes(unittest.TestCase):
             numbers = [number for _, number in wrote]
             self.assertEqual(numbers, sorted(numbers), "a lower number writes over a higher one")
             _, count, _ = client.texts().get("paper").split(" ")
-            self.assertIn(int(count) - len(wrote), range(sum(worker.kills for worker in workers) + len(holders) + 1))
+            self.assertIn(int(count) - len(wrote), range(kills_of(workers) + len(holders) + 1))
             self.assertIsNone(lease.write(client.texts(), "paper", 0, "late"))
 
 

@@ -19,13 +19,13 @@ else is a TypeError, a ValueError or an OverflowError, and nothing is sent. What
     PipelineFailed  calls of a pipeline have no result; `replies` tells of each
     WrongValue    a view of one kind of values met the other kind; the call was made
 
-No change is ever sent twice. dchm.aio has the client for asyncio, dchm.testing a server for tests.
+outcome(error) says what is true of the call that a KeyboardInterrupt or a CancelledError ended. No change is ever sent twice. dchm.aio has the client for asyncio, dchm.testing a server for tests.
 """
 from dchm.calls import Calls, Longs, Map, Texts
 from dchm.client import Client, Pipeline, connect
-from dchm.errors import (BadFrame, Closed, DchmError, Fault, KeyTooLong, NoMemory, NotMade, NotText, NullValue, OutcomeOpen,
-                         Overflow, PipelineFailed, Refused, TicketsSpent, TooLong, UnknownFunction, UnknownMethod,
-                         ValueTooLong, WrongKind, WrongValue)
+from dchm.errors import (BadFrame, Closed, DchmError, Fault, KeyTooLong, Made, NoMemory, NotMade, NotText, NullValue,
+                         OutcomeOpen, Overflow, PipelineFailed, Refused, TicketsSpent, TooLong, UnknownFunction, UnknownMethod,
+                         ValueTooLong, WrongKind, WrongValue, outcome)
 from dchm.wire import (CONCAT, CONST, DROP, KEEP, KEY_LIMIT, MAX, MIN, SUM, SUM_EXACT, SUM_NONZERO, TEXT_LIMIT, Address,
                        Function, Value)
 
@@ -37,5 +37,5 @@ __all__ = [
     "CONST", "DROP", "KEEP", "SUM", "MAX", "MIN", "CONCAT", "SUM_NONZERO", "SUM_EXACT", "KEY_LIMIT", "TEXT_LIMIT",
     "DchmError", "NotMade", "Closed", "OutcomeOpen", "PipelineFailed", "WrongValue", "Refused", "NullValue", "KeyTooLong",
     "ValueTooLong", "UnknownMethod", "UnknownFunction", "BadFrame", "NoMemory", "TicketsSpent", "NotText", "Fault",
-    "WrongKind", "TooLong", "Overflow",
+    "WrongKind", "TooLong", "Overflow", "Made", "outcome",
 ]

@@ -16,7 +16,7 @@ from typing import Any
 from dchm import sockets, wire
 from dchm.async_calls import AsyncLongs, AsyncMap, AsyncTexts
 from dchm.core import Call, Core, Link
-from dchm.errors import Closed, DchmError
+from dchm.errors import Closed, DchmError, attach
 from dchm.wire import Address, Value
 
 __all__ = ["AsyncClient", "AsyncLongs", "AsyncMap", "AsyncTexts", "connect"]
@@ -30,7 +30,8 @@ class AsyncClient(AsyncMap[Value]):
 
     At most `in_flight` requests are under way, the others wait. `timeout` seconds after its begin a call has ended, whatever
     it waited for. A connection that wasn't used for `idle` seconds is ended; 0 ends none. A read isn't sent again, and a
-    change never is. A call whose task is cancelled keeps its place until its reply; the outcome of a change is open then.
+    change never is. A call whose task is cancelled keeps its place until its reply; dchm.outcome(error) says of the
+    CancelledError what is true of it.
     """
 
     def __init__(self, address: Address, timeout: float = 30, connect_timeout: float = 5, idle: float = 30,
@@ -78,8 +79,9 @@ class AsyncClient(AsyncMap[Value]):
             self._loop.call_soon(self._flush)
         try:
             await call.waiter
-        except asyncio.CancelledError:
+        except asyncio.CancelledError as cancelled:
             self._core.cancel(call)
+            attach(cancelled, wire.ended(call.frame, call.outcome))
             self._set_timer()
             raise
 

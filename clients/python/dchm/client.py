@@ -8,7 +8,7 @@ from typing import Any
 
 from dchm import sockets, wire
 from dchm.calls import Calls, Longs, Map, Texts
-from dchm.errors import Closed, DchmError, NotMade, PipelineFailed
+from dchm.errors import Closed, DchmError, NotMade, PipelineFailed, attach
 from dchm.lane import Lane
 from dchm.pool import Pool
 from dchm.wire import Address, Value
@@ -63,21 +63,21 @@ class Client(Map[Value]):
         return found
 
     def _ask(self, frame: bytes, begin: float, deadline: float) -> Any:
-        lane = self._pool.taken(deadline) or self._lane(frame, deadline)
+        lane = self._lane(frame, deadline)
         try:
             found = lane.ask(frame, begin, deadline)
             if isinstance(found, NotMade) and lane.core.failure and self._pool.withholds(lane):
                 return self._ask(frame, begin, deadline)
             return found
-        except BaseException as error:
-            # Such as KeyboardInterrupt: the next call must not take the reply of this one.
-            lane.end(error)
-            raise
         finally:
             self._pool.put_back(lane)
 
     def _lane(self, frame: bytes, deadline: float) -> Lane:
-        lane = self._pool.taken(deadline)
+        try:
+            lane = self._pool.taken(deadline)
+        except BaseException as error:
+            attach(error, wire.about(frame, NotMade, "interrupted before it was sent"))
+            raise
         if lane is None:
             if self._pool.is_closed:
                 raise wire.about(frame, Closed, "the client was closed")
@@ -101,9 +101,6 @@ class Client(Map[Value]):
         lane = self._lane(frames[0], time.monotonic() + self.timeout)
         try:
             return lane.ask_all(frames, self.timeout)
-        except BaseException as error:
-            lane.end(error)
-            raise
         finally:
             self._pool.put_back(lane)
 

@@ -122,16 +122,16 @@ class Core:
             self._connect_due = now + self.connect_timeout
             self.due = min(self.due, self._connect_due)
 
-    def end(self, why: str) -> None:
-        """Ends the connection and all calls, such as after an interrupt."""
+    def end(self, why: str, kind: type[NotMade] = NotMade) -> None:
+        """Ends the connection and all calls, such as after an interrupt. What wasn't sent is of this kind."""
         if self.link is not Link.CLOSED:
             self._end_row(why, math.inf)
-            self._end_queue(Closed, why)
+            self._end_queue(kind, why)
             self.link, self._connect_due = Link.NONE, math.inf
 
     def close(self) -> None:
         """The client is closed, for good."""
-        self.end("the client was closed")
+        self.end("the client was closed", Closed)
         self.link = Link.CLOSED
 
     # -- events of the connection

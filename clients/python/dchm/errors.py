@@ -23,6 +23,11 @@ class OutcomeOpen(DchmError):
     """A change was sent and got no reply, or the store failed: it was made, may be made yet, or never is."""
 
 
+class Made(DchmError):
+    """A call was made whose caller was interrupted or cancelled before it had the result, which is `result`."""
+    result: Any = None
+
+
 class WrongValue(DchmError, TypeError):
     """A view of one kind of values met the other kind. The call was made."""
 
@@ -109,6 +114,28 @@ class TooLong(Fault, ValueError):
 
 class Overflow(Fault, OverflowError):
     """The sum has more than 64 bits."""
+
+
+def outcome(error: BaseException | None) -> DchmError | None:
+    """What is true of the call that an interrupt or a cancel ended: NotMade, OutcomeOpen, Made, or what the server said.
+
+    It is a cause of the error, such as of a KeyboardInterrupt, of a CancelledError as the task's own code or the first that
+    awaits the task meets it, or of the TimeoutError of asyncio. None if the error came while no call was under way, or just
+    as one came back.
+    """
+    seen: set[int] = set()
+    while error is not None and not isinstance(error, DchmError) and id(error) not in seen:
+        seen.add(id(error))
+        error = error.__cause__ or error.__context__
+    return error if isinstance(error, DchmError) else None
+
+
+def attach(error: BaseException, told: DchmError) -> None:
+    """Makes it the last cause of an error what is true of the call that the error ended."""
+    while error.__cause__ is not None and not isinstance(error.__cause__, DchmError):
+        error = error.__cause__
+    if not isinstance(error, DchmError):
+        error.__cause__ = told
 
 
 FAULTS: dict[int, type[Fault]] = {1: WrongKind, 2: TooLong, 3: Overflow}

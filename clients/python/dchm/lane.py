@@ -5,12 +5,12 @@ import contextlib
 import select
 import socket
 import time
-from collections.abc import Sequence
+from collections.abc import Callable, Sequence
 from typing import Any, Protocol
 
 from dchm import sockets, wire
 from dchm.core import Call, Core, Link
-from dchm.errors import NotMade, OutcomeOpen
+from dchm.errors import NotMade, OutcomeOpen, PipelineFailed, attach
 from dchm.wire import Address
 
 # A thread that waits looks so often whether the client was closed meanwhile, also by a signal handler in this thread.
@@ -20,6 +20,7 @@ _BUFFER_BYTES = 65_536
 # How many calls of a pipeline are sent at a time, as the server makes them together, and how many are under way.
 _ROW, _AHEAD = 64, 128
 _NOT_SENT = "a call before it got no reply, and it isn't sent"
+_INTERRUPTED = "interrupted before it was sent"
 _WITHOUT_REPLY = (NotMade, OutcomeOpen)
 _UP, _TRIED = Link.UP, Link.TRIED
 _READABLE = select.POLLIN | select.POLLHUP | select.POLLERR
@@ -53,19 +54,41 @@ class Lane:
     def ask(self, frame: bytes, begin: float, deadline: float) -> Any:
         """The outcome of one call."""
         core = self.core
-        if core.link is not _UP or begin >= core.due or self._poll.poll(0):
-            self.look(begin)
-        call = core.begin(frame, begin, deadline)
-        while not call.is_done:
-            self._step()
+        call: Call | None = None
+        try:
+            if core.link is not _UP or begin >= core.due or self._poll.poll(0):
+                self.look(begin)
+            call = core.begin(frame, begin, deadline)
+            while not call.is_done:
+                self._step()
+        except BaseException as error:
+            # Such as KeyboardInterrupt: the next call must not take the reply of this one.
+            self.end(error)
+            attach(error, wire.ended(frame, call.outcome) if call else wire.about(frame, NotMade, _INTERRUPTED))
+            raise
         core.finished.clear()
         return call.outcome
 
     def ask_all(self, frames: Sequence[bytes], timeout: float) -> list[Any]:
         """The outcomes of calls that are sent ahead of each other's replies. After one without a reply no more are sent."""
+        calls: list[Call] = []
+        try:
+            self._send_all(frames, timeout, calls)
+        except BaseException as error:
+            self.end(error)
+            attach(error, PipelineFailed(self._replies(frames, calls, wire.ended)))
+            raise
+        self.core.finished.clear()
+        return self._replies(frames, calls, lambda _, outcome: outcome)
+
+    @staticmethod
+    def _replies(frames: Sequence[bytes], calls: Sequence[Call], told: Callable[[bytes, Any], Any]) -> list[Any]:
+        return [told(call.frame, call.outcome) for call in calls] + [
+            wire.about(frame, NotMade, _NOT_SENT) for frame in frames[len(calls):]]
+
+    def _send_all(self, frames: Sequence[bytes], timeout: float, calls: list[Call]) -> None:
         now = time.monotonic()
         self.look(now)
-        calls: list[Call] = []
         begin = self.core.begin
         for at, frame in enumerate(frames):
             if at % _ROW == 0:
@@ -76,9 +99,6 @@ class Lane:
         if not all(call.is_done or self._ends_well(call) for call in calls) or len(calls) < len(frames):
             for call in calls:
                 self.core.cancel(call, _NOT_SENT)
-        self.core.finished.clear()
-        return [call.outcome for call in calls] + [
-            wire.about(frame, NotMade, _NOT_SENT) for frame in frames[len(calls):]]
 
     def _ends_well(self, call: Call) -> bool:
         """Waits until the call has ended; returns whether each that ended meanwhile got its reply."""

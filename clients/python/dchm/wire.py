@@ -6,7 +6,7 @@ import os
 import struct
 from typing import Any, Union
 
-from dchm.errors import FAULTS, REFUSALS, DchmError, NotMade, OutcomeOpen, Refused
+from dchm.errors import FAULTS, REFUSALS, DchmError, Made, NotMade, OutcomeOpen, Refused
 
 Value = Union[int, str]
 Address = Union[int, str, "os.PathLike[str]"]
@@ -167,6 +167,16 @@ def about(frame: bytes, kind: type[DchmError], why: str) -> DchmError:
 def lost(frame: bytes, why: str) -> DchmError:
     """What a request that was sent and got no reply comes to."""
     return about(frame, OutcomeOpen if may_change(frame) else NotMade, why)
+
+
+def ended(frame: bytes, outcome: Any) -> DchmError:
+    """The outcome of a call as an exception, for a caller that can't be given the result."""
+    if isinstance(outcome, DchmError):
+        return outcome
+    made = about(frame, Made, f"it was made, with the result {outcome!r:.100}")
+    assert isinstance(made, Made)
+    made.result = outcome
+    return made
 
 
 # ---- replies
