@@ -31,6 +31,8 @@ class Session(Process):
                 (("get", "stock"), "now i3\n"),
             ):
                 self.assertEqual((0, printed, ""), self.call(port, *words), words)
+            for words in (("remove", "stock", "i3"), ("put", "stock", "3"), ("clear",)):
+                self.assertEqual((2, ""), self.call(port, *words)[:2], words)
             kill(child)
             self.assertEqual((1, "", "no reply\n"), self.call(port, "get", "stock"))
         with self.served() as (_, port):
