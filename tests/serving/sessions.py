@@ -6,7 +6,7 @@ import subprocess
 import threading
 
 from harness.counters import COUNTERS, Client
-from harness.files import FILES, OLD_FILES, read_file, read_files, write_files
+from harness.files import FILES, OLD_FILES, OLD_FILES_ROTATED, read_file, read_files, write_files
 from harness.served import COUNT
 from harness.servers import Connection, Dchm, init, kill
 from serving.runs import CONNECTIONS, IN_USE, PREFIX_RECORD, PROGRAM, REQUESTS, Process, call_lines, prefix_of, run
@@ -31,6 +31,8 @@ class Session(Process):
                 (("get", "stock"), "now i3\n"),
             ):
                 self.assertEqual((0, printed, ""), self.call(port, *words), words)
+            for words in (("remove", "stock", "i3"), ("put", "stock", "3"), ("clear",)):
+                self.assertEqual((2, ""), self.call(port, *words)[:2], words)
             kill(child)
             self.assertEqual((1, "", "no reply\n"), self.call(port, "get", "stock"))
         with self.served() as (_, port):
@@ -56,6 +58,18 @@ class Session(Process):
             self.assertEqual(1, self.records().count("upgraded"))
             for key, printed in ((longest, "now i7\n"), ("a", "now i5\n")):
                 self.assertEqual((0, printed, ""), self.call(port, "get", key), key)
+
+    def test_the_last_frame_of_version_01(self):
+        """The log of version 01 ends with the frame that names the next one, which has version 02."""
+        empty = bytes.fromhex("01" + 16 * "00" + "00")
+        ended = bytes.fromhex("01" + 16 * "00" + "A5" + "0200000008" + "0000000000000001" + "00")
+        begun = bytes.fromhex("02" + "0000000000000001" + 8 * "00" + "00")
+        for log_a, ended_log, low in ((empty, ended, 0), (OLD_FILES["log-a"], OLD_FILES_ROTATED["log-a"], 1)):
+            write_files(self.directory, {**OLD_FILES, "log-a": log_a})
+            with self.served() as (child, _):
+                kill(child)
+            self.assertEqual(ended_log, read_file(self.directory, "log-a"))
+            self.assertEqual(begun[:16] + bytes([low]) + begun[17:], read_file(self.directory, "log-b"))
 
     def test_exact_sums(self):
         """A sum of more than 64 bits is a fault that leaves the key, and the log with these changes is opened again."""

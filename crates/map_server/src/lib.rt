@@ -8,7 +8,9 @@ mod order;
 pub mod program;
 pub mod simulation;
 
-pub use cmd_serve::{Arrivals, NoObserver, Observer, workers};
+pub use cmd_serve::{
+    Arrivals, Bell, Furniture, NoObserver, Observer, Service, Stream, furnish, workers,
+};
 pub use connections::{Calls, ConnectionError, serve_connection};
 pub use descriptors::{Descriptors, StandardStreams, hold_streams};
 pub use host::Host;
