@@ -41,6 +41,8 @@ final class ServerClient implements DchmClient {
     /** Waits for the first connection. */
     void open() {
         Call opener = Call.opener(System.nanoTime() + 2 * options.connectTimeout.toNanos());
+        // Else it would be told of the interrupt, or have its connection, as the threads happen to run.
+        refuseIfInterrupted(opener);
         lanes[0].send(opener);
         lanes[0].await(opener);
     }
@@ -104,11 +106,15 @@ final class ServerClient implements DchmClient {
         return asked(laneOf(key, frame), call, begin);
     }
 
+    private static void refuseIfInterrupted(Call call) {
+        if (Thread.currentThread().isInterrupted()) {
+            throw call.notMade("interrupted before it was sent", null);
+        }
+    }
+
     private Wire.Reply asked(Driver lane, Call call, long begin) {
         try {
-            if (Thread.currentThread().isInterrupted()) {
-                throw call.notMade("interrupted before it was sent", null);
-            }
+            refuseIfInterrupted(call);
             lane.send(call);
             Wire.Reply reply = Told.checked(lane.await(call), call.frame);
             heard(call.frame, begin, null);

@@ -302,7 +302,12 @@ public final class StallTest {
         byte[] bytes = new byte[64];
         int left = random.nextInt(30, most);
         try {
-            for (int count = in.read(bytes); count > 0 && left > 0; count = in.read(bytes, 0, 1 + random.nextInt(bytes.length))) {
+            // What was cut off ends the connection at once: nothing may come behind it.
+            while (left > 0) {
+                int count = in.read(bytes, 0, 1 + random.nextInt(bytes.length));
+                if (count < 0) {
+                    return;
+                }
                 if (random.nextInt(50) == 0) {
                     Thread.sleep(random.nextInt(5));
                 }
