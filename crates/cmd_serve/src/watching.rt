@@ -105,19 +105,19 @@ pub(crate) fn watch_names<R: Clock + Log + Wait, E: Ends>(
     first_error: &FirstError,
     ends: &E,
 ) {
-    let mut pauses = 0;
+    let mut pauses: u32 = 0;
     for _turn in rt.forever() {
         if ends.has_ended() {
             return;
         }
-        if pauses == PAUSES {
+        if pauses >= PAUSES {
             pauses = 0;
             if first_error.note_removal() {
                 error!(rt; "the files have no names any more: no change is kept from now on");
                 return;
             }
         }
-        pauses += 1;
+        pauses = pauses.saturating_add(1);
         thread::sleep(rt, Duration::from_millis(PAUSE));
     }
 }
