@@ -96,9 +96,9 @@ pub fn create_directory<M: Directories, R: Clock>(
 impl<F: Files<File = File>> Directories for F {
     type Opened = DirDisk<Unknown>;
 
-    ghost is_opened = { λ directory disk. disk.past.events ≡ [] };
+    ghost is_opened = { λ directory disk. disk.calls.past.events ≡ [] };
 
-    ghost is_created = { λ directory disk. disk.past.events ≡ [] };
+    ghost is_created = { λ directory disk. disk.calls.past.events ≡ [] };
 
     ghost is_refused = { λ directory error. Unit {0} };
 
