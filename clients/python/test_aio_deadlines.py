@@ -68,7 +68,7 @@ class Aio(unittest.IsolatedAsyncioTestCase):
         with real_process() as (child, port):
             async with await dchm.aio.connect(port, **HASTY) as s:
                 await s.merge("a", dchm.SUM, 1)
-                child.send_signal(signal.SIGSTOP)
+                servers.stop(child)
                 try:
                     with self.soon():
                         found = await together(s.merge("a", dchm.SUM, 1) for _ in range(TASKS))

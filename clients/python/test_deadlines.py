@@ -63,7 +63,7 @@ class Deadlines(Timed):
     def test_a_stopped_server(self):
         with real_process() as (child, port), dchm.connect(port, **HASTY) as server:
             server.merge("a", dchm.SUM, 1)
-            child.send_signal(signal.SIGSTOP)
+            servers.stop(child)
             try:
                 with self.soon():
                     found = together(THREADS, lambda number: server.merge("a", dchm.SUM, 1) if number % 2 else server.get("a"))

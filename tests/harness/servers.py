@@ -25,6 +25,7 @@ PORTS = range(12000, 32000)
 REPLY_SECONDS = 30
 START_SECONDS = 60
 RUN_SECONDS = 60
+STOP_TURN_SECONDS = 0.001
 
 
 class Dchm:
@@ -103,6 +104,19 @@ def end_by_signal():
     for number in (signal.SIGTERM, signal.SIGHUP):
         if signal.getsignal(number) != signal.SIG_IGN:
             signal.signal(number, lambda got, _: sys.exit(128 + got))
+
+
+def stop(child):
+    """Stops a process: none of its threads runs any more, until SIGCONT."""
+    child.send_signal(signal.SIGSTOP)
+    tasks = f"/proc/{child.pid}/task"
+    while any(state_of(os.path.join(tasks, task, "stat")) != "T" for task in os.listdir(tasks)):
+        time.sleep(STOP_TURN_SECONDS)
+
+
+def state_of(path):
+    with open(path, encoding="utf-8", errors="replace") as file:
+        return file.read().rpartition(")")[2].split()[0]
 
 
 @contextlib.contextmanager
