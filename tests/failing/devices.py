@@ -25,9 +25,9 @@ def is_refused(port):
         return reply == FAILED and not connection.socket.recv(1)
 
 
-# The threads that stay beside the workers: the first one, two for the whole map, the one that watches the device, the one that
-# watches the names of its files, and the one that writes the records.
-OTHER_THREADS = 6
+# The threads that stay beside the workers: the first one, two for the whole map, the one that watches the device, and the one
+# that writes the records.
+OTHER_THREADS = 5
 
 
 def threads_of(child):

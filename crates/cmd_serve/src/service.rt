@@ -6,7 +6,7 @@ use crate::figures::Figures;
 use crate::observer::Observer;
 use crate::pool::{Arrivals, workers};
 use crate::seats::{Furniture, furnish};
-use crate::watching::{watch_device, watch_names};
+use crate::watching::watch_device;
 use disk_model::{Disk, FirstError};
 use durable_map::{DurableMap, Ends, SealedCheckpoint, checkpoint_loop, flush_loop};
 use log::{Log, error};
@@ -114,8 +114,7 @@ impl<'a, D: Disk + Drop, O: Observer, R> Ending<'a, D, O, R> {
 }
 
 /// Runs the two loops of the map on threads of their own and serves the connections with workers at these
-/// seats, until no more come. Two threads more watch the calls of the device and the names of its files. The
-/// observer is told of
+/// seats, until no more come. One thread more watches the calls of the device. The observer is told of
 /// what they do, and watches on another thread, if it is to. If the store fails, one Error record says so.
 /// Refused with `NoMemory` if a thread can't be started.
 pub(crate) fn serve_seated<
@@ -145,11 +144,7 @@ pub(crate) fn serve_seated<
             ending.tell(rt, service.first_error, ended);
         });
         let guard = scope.spawn(move || watch_device(rt, service.first_error, ending));
-        let name_guard = scope.spawn(move || watch_names(rt, service.first_error, ending));
-        let mut has_started = flusher.is_ok()
-            && checkpointer.is_ok()
-            && guard.is_ok()
-            && name_guard.is_ok();
+        let mut has_started = flusher.is_ok() && checkpointer.is_ok() && guard.is_ok();
         if has_started && observer.watches() {
             let watcher = scope.spawn(move || observer.watch(
                 rt,

@@ -72,13 +72,29 @@ fn goes_on(watched: &Option<Watched>, call: Option<DeviceCall>) -> bool {
     }
 }
 
-/// Watches the calls of the device until `ends` says so. It asks no device, and so never waits for one.
+/// Looks whether the files have names still, unless that was found. If one has none, a record says so. From
+/// then on each device call fails, so that no change is answered which would be lost with the process.
+fn look_for_names<L: Log>(rt: &L, first_error: &FirstError, is_removed: bool) -> bool {
+    if is_removed {
+        return true;
+    }
+    let is_removed = first_error.note_removal();
+    if is_removed {
+        error!(rt; "the files have no names any more: no change is kept from now on");
+    }
+    is_removed
+}
+
+/// Watches the calls of the device until `ends` says so. It makes none, and waits for none. While none is
+/// under way it asks the system each second whether the files have names.
 pub(crate) fn watch_device<R: Clock + Log + Wait, E: Ends>(
     rt: &R,
     first_error: &FirstError,
     ends: &E,
 ) {
     let mut watched: Option<Watched> = None;
+    let mut pauses: u32 = 0;
+    let mut is_removed = false;
     for _turn in rt.forever() {
         if ends.has_ended() {
             return;
@@ -93,31 +109,11 @@ pub(crate) fn watch_device<R: Clock + Log + Wait, E: Ends>(
         if let Some(watched) = &mut watched {
             watched.tell(rt);
         }
-        thread::sleep(rt, Duration::from_millis(PAUSE));
-    }
-}
-
-/// Looks each second whether the files have names still, until one has none or `ends` says so. From then on
-/// each device call fails, so that no change is answered which would be lost with the process. It asks the
-/// system about the files, and so may wait for it.
-pub(crate) fn watch_names<R: Clock + Log + Wait, E: Ends>(
-    rt: &R,
-    first_error: &FirstError,
-    ends: &E,
-) {
-    let mut pauses: u32 = 0;
-    for _turn in rt.forever() {
-        if ends.has_ended() {
-            return;
-        }
-        if pauses >= PAUSES {
-            pauses = 0;
-            if first_error.note_removal() {
-                error!(rt; "the files have no names any more: no change is kept from now on");
-                return;
-            }
-        }
         pauses = pauses.saturating_add(1);
+        if pauses >= PAUSES && call.is_none() {
+            pauses = 0;
+            is_removed = look_for_names(rt, first_error, is_removed);
+        }
         thread::sleep(rt, Duration::from_millis(PAUSE));
     }
 }

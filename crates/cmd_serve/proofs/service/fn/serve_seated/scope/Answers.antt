@@ -11,9 +11,6 @@ spawn-checkpointer-requires-send-F g c κs h = search (service_sync, ending_sync
 pub spawn-guard-requires-send-F : goal.spawn-guard-requires-send-F
 spawn-guard-requires-send-F g c κs h = search (service_sync, ending_sync, sendable) depth 12
 
-pub spawn-name_guard-requires-send-F : goal.spawn-name_guard-requires-send-F
-spawn-name_guard-requires-send-F g c κs h = search (service_sync, ending_sync, sendable) depth 12
-
 pub workers-requires-send-D : goal.workers-requires-send-D
 workers-requires-send-D g c = search sendable
 
